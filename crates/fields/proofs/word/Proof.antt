@@ -1,0 +1,69 @@
+-- `fields::word` meets its contract: four bytes stay below 2 ^ 32.
+-- Assumes nothing.
+use borrow.Author.Needs.{needs}
+use native.Mathlib.Omega.{arith}
+use Rattle.fields.specs.Word.{wordAt}
+use Rattle.fields.proofs.word.Statement.{statement}
+use Rattle.fields.proofs.word.Tie as tie
+
+byte-requires : tie.Need-byte-requires
+byte-requires c κs = search needs
+
+add-byte : tie.Need-add-byte
+add-byte c = search needs
+
+byte-requires-2 : tie.Need-byte-requires-2
+byte-requires-2 c κs = search needs
+
+add-byte-2 : tie.Need-add-byte-2
+add-byte-2 c = search needs
+
+byte-requires-3 : tie.Need-byte-requires-3
+byte-requires-3 c κs = search needs
+
+add-byte-3 : tie.Need-add-byte-3
+add-byte-3 c = search needs
+
+byte-requires-4 : tie.Need-byte-requires-4
+byte-requires-4 c κs = search needs
+
+mul-result : tie.Need-mul-result
+mul-result c = omega arith
+
+add-result : tie.Need-add-result
+add-result c = omega arith
+
+mul-result-2 : tie.Need-mul-result-2
+mul-result-2 c = omega arith
+
+add-result-2 : tie.Need-add-result-2
+add-result-2 c = omega arith
+
+mul-result-3 : tie.Need-mul-result-3
+mul-result-3 c = omega arith
+
+add-result-3 : tie.Need-add-result-3
+add-result-3 c = omega arith
+
+returns : tie.Need-returns
+unfolding wordAt
+returns c = omega arith
+
+pub word-spec : {M : Type 1} → statement M
+word-spec =
+    tie.close
+    (tie.spec
+    byte-requires
+    add-byte
+    byte-requires-2
+    add-byte-2
+    byte-requires-3
+    add-byte-3
+    byte-requires-4
+    mul-result
+    add-result
+    mul-result-2
+    add-result-2
+    mul-result-3
+    add-result-3
+    returns)
