@@ -1,0 +1,116 @@
+//! Everything that the generator makes, against the plain maps.
+
+use second::bench;
+use second::calls::Call;
+
+use crate::bench_calls::Source;
+use crate::images;
+use crate::plain::{self, Asked};
+use crate::random::Random;
+use crate::script;
+
+const FILL: u8 = 0xa5;
+
+fn plain_step(call: &Call, image_out: &mut [u8], answer: &mut [u8]) -> Result<(), u32> {
+    if call.op > 4 {
+        return Err(14);
+    }
+    if answer.len() < 16 {
+        return Err(19);
+    }
+    let mut suite = plain::image::read(&call.image_in)?;
+    let lookup = Asked {
+        read_set: u64::from(call.read_set),
+        write_set: None,
+        name: u64::from(call.name),
+        value: None,
+    };
+    let remove = Asked {
+        write_set: Some(u64::from(call.write_set)),
+        ..lookup
+    };
+    let put = Asked {
+        value: Some(u64::from(call.value)),
+        ..remove
+    };
+    let numbers = match call.op {
+        0 => suite.lookup(lookup)?,
+        1 => suite.put(put, false)?,
+        2 => suite.put(put, true)?,
+        3 => suite.remove(remove)?,
+        _ => suite.neighbours(lookup)?,
+    };
+    let image = plain::image::write(&suite);
+    if image_out.len() < image.len() {
+        return Err(19);
+    }
+    image_out[..image.len()].copy_from_slice(&image);
+    let bytes: Vec<u8> = numbers
+        .iter()
+        .flat_map(|number| (*number as u32).to_be_bytes())
+        .collect();
+    answer[..16].copy_from_slice(&bytes);
+    Ok(())
+}
+
+#[test]
+fn bench_calls_agree() {
+    let mut random = Random::new(11);
+    let mut source = Source::new(&mut random);
+    for _ in 0..6_000 {
+        let call = source.next(&mut random);
+        let (mut image, mut answer) = (vec![FILL; call.image_out], vec![FILL; call.answer]);
+        let (mut plain_image, mut plain_answer) = (image.clone(), answer.clone());
+        let Call {
+            op,
+            read_set,
+            write_set,
+            name,
+            value,
+            ..
+        } = call;
+        let result = bench::step(
+            op,
+            read_set,
+            write_set,
+            name,
+            value,
+            &call.image_in,
+            &mut image,
+            &mut answer,
+        );
+        let plain = plain_step(&call, &mut plain_image, &mut plain_answer);
+        assert_eq!(result, plain.err().unwrap_or(0), "{call:?}");
+        assert_eq!((image, answer), (plain_image, plain_answer), "{call:?}");
+    }
+}
+
+#[test]
+fn scripts_agree() {
+    let mut random = Random::new(12);
+    for _ in 0..150 {
+        let count = 1 + random.below(500);
+        let lines = script::lines(&mut random, count);
+        let text = script::text(&mut random, &lines);
+        let mut output = Vec::new();
+        second::line::run(&text[..], &mut output).unwrap();
+        assert_eq!(String::from_utf8(output).unwrap(), plain::line::run(&text));
+    }
+}
+
+#[test]
+fn image_readers_agree() {
+    let mut random = Random::new(13);
+    for _ in 0..2_000 {
+        let image = images::any(&mut random);
+        let second = second::image::read(&image);
+        match (&second, plain::image::read(&image)) {
+            (Ok(suite), Ok(plain)) => {
+                assert_eq!(images::of(suite), image);
+                assert_eq!(plain::image::write(&plain), image);
+            }
+            (Err(refusal), Err(number)) => assert_eq!(refusal.number(), number, "{image:?}"),
+            (second, plain) => panic!("{second:?} and {plain:?} on {image:?}"),
+        }
+    }
+}

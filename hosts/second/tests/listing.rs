@@ -1,0 +1,90 @@
+//! The paper's listing, on the line and through the bench call.
+
+use second::bench::{self, INSERT, LOOKUP, NEIGHBOURS, REMOVE};
+use second::image;
+use second::suite::Suite;
+
+const LISTING: &str = "\
+suite 2 2 1 1 1   -> suite ok
+ins 3 3 20 7      -> ok 1
+look 6 20         -> at 1 7
+ins 6 6 10 3      -> ok 1
+ins 5 5 30 9      -> ok 1
+del 5 6 20        -> ok 2 6
+look 3 20         -> none 2
+near 3 15         -> 10 30 4
+look 3 10         -> at 1 3
+ins 3 3 20 8      -> ok 3
+look 5 20         -> at 3 8
+del 5 1 20        -> no 9
+ins 3 3 20 8      -> no 10
+";
+
+#[test]
+fn on_the_line() {
+    let sides = || LISTING.lines().map(|line| line.split_once("->").unwrap());
+    let input: String = sides()
+        .map(|(left, _)| format!("{}\n", left.trim_end()))
+        .collect();
+    let expected: String = sides()
+        .map(|(_, right)| format!("{}\n", right.trim_start()))
+        .collect();
+    let mut output = Vec::new();
+    second::line::run(input.as_bytes(), &mut output).unwrap();
+    assert_eq!(String::from_utf8(output).unwrap(), expected);
+    let mut output = Vec::new();
+    second::line::run(input.trim_end().as_bytes(), &mut output).unwrap();
+    assert_eq!(
+        String::from_utf8(output).unwrap(),
+        expected,
+        "the last newline may be missing"
+    );
+}
+
+#[test]
+fn through_the_bench() {
+    let mut image_in = [0; image::LONGEST];
+    let mut length =
+        image::write(&Suite::create(2, 2, &[1, 1, 1]).unwrap(), &mut image_in).unwrap();
+    let calls = [
+        (INSERT, 3, 3, 20, 7, 0, [1, 4, 0, 0]),
+        (LOOKUP, 6, 99, 20, 99_999, 0, [1, 1, 7, 2]),
+        (INSERT, 6, 6, 10, 3, 0, [1, 4, 0, 0]),
+        (INSERT, 5, 5, 30, 9, 0, [1, 4, 0, 0]),
+        (REMOVE, 5, 6, 20, 99_999, 0, [2, 6, 0, 0]),
+        (LOOKUP, 3, 0, 20, 0, 0, [0, 2, 0, 2]),
+        (NEIGHBOURS, 3, 99, 15, 99_999, 0, [11, 31, 4, 0]),
+        (LOOKUP, 3, 0, 10, 0, 0, [1, 1, 3, 2]),
+        (INSERT, 3, 3, 20, 8, 0, [3, 4, 0, 0]),
+        (LOOKUP, 5, 0, 20, 0, 0, [1, 3, 8, 2]),
+        (REMOVE, 5, 1, 20, 0, 9, [0; 4]),
+        (INSERT, 3, 3, 20, 8, 10, [0; 4]),
+    ];
+    for (op, read_set, write_set, name, value, expected, numbers) in calls {
+        let mut image_out = [0; image::LONGEST];
+        let mut answer = [0; 16];
+        let image = &image_in[..length];
+        let result = bench::step(
+            op,
+            read_set,
+            write_set,
+            name,
+            value,
+            image,
+            &mut image_out,
+            &mut answer,
+        );
+        assert_eq!(result, expected);
+        let bytes: Vec<u8> = numbers
+            .iter()
+            .flat_map(|number: &u32| number.to_be_bytes())
+            .collect();
+        assert_eq!(answer[..], bytes);
+        if result == 0 {
+            image_in = image_out;
+            length = (1..)
+                .find(|&length| image::read(&image_in[..length]).is_ok())
+                .unwrap();
+        }
+    }
+}
