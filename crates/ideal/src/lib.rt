@@ -1,0 +1,1 @@
+// No code that runs: the theory is in specs/.

@@ -1,0 +1,11 @@
+pub mod Rows
+pub mod Seats
+pub mod Offers
+pub mod Soundness
+pub mod Shift
+pub mod Changes
+pub mod Writes
+pub mod Steps
+pub mod Cleared
+pub mod CoalesceSteps
+pub mod Fits

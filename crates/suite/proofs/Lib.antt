@@ -1,0 +1,15 @@
+pub mod Sets
+pub mod RowFacts
+pub mod All
+pub mod Used
+pub mod Votes
+pub mod Creating
+pub mod Verdicts
+pub mod Bounds
+pub mod Filling
+pub mod Asking
+pub mod Folds
+pub mod Surveys
+pub mod Stepping
+pub mod Surveying
+pub mod Calling

@@ -1,0 +1,58 @@
+-- A set gone through place by place, as the loops do: the lowest digit names the place, the rest goes on with the next.
+use mathlib.Core.Path.{_≡_, sym, ap, _∙_}
+use mathlib.Core.List.{List, [], _∷_, map}
+use Prim.Native.Nat.{ℕ, _+_, _*_, _/_, _%_, _^_, _≤_, _<_}
+use native.Mathlib.Nat.{one-mul}
+use native.Mathlib.Omega.{arith}
+use native.Mathlib.Numerals.{add-one}
+use borrow.Author.Tests.{eq-eqb, ne-eqb}
+use lib.ListN.{length, drop, getD, length-take, length-map, drop-of-length-le}
+use lib.Seq.{getD-take, drop-cons}
+use lib.Pow.{shl-exact}
+use Rattle.suite.specs.Sets.{chosen, total, votesOf}
+use Rattle.suite.specs.Suite.{ballots}
+use Rattle.suite.specs.declared.Suite.{Suite}
+
+-- an array of structs has its length by its elements' bits
+pub length-of-map : {A B : Type 0} (f : A → B) (l : List A) (n : ℕ) → length (map f l) ≡ n → length l ≡ n
+length-of-map f l n e = sym (length-map l f) ∙ e
+
+-- the place i is named
+pub chosen-named : {A : Type 0} (l : List A) (i : ℕ) (d : A) (set : ℕ) → i < length l → set % 2 ≡ 1
+    → chosen (drop i l) set ≡ getD l i d ∷ chosen (drop (i + 1) l) (set / 2)
+unfolding chosen
+chosen-named l i d set h e = rw (drop-cons l i d, eq-eqb (set % 2) 1 e, add-one)
+
+-- the place i is not named
+pub chosen-passed : {A : Type 0} (l : List A) (i : ℕ) (d : A) (set : ℕ) → i < length l → (set % 2 ≡ 1 → ⊥)
+    → chosen (drop i l) set ≡ chosen (drop (i + 1) l) (set / 2)
+unfolding chosen
+chosen-passed l i d set h e = rw (drop-cons l i d, ne-eqb (set % 2) 1 e, add-one)
+
+-- past the last place none is left
+pub chosen-past : {A : Type 0} (l : List A) (i set : ℕ) → length l ≤ i → chosen (drop i l) set ≡ []
+unfolding chosen
+chosen-past l i set h = rw (drop-of-length-le l)
+
+-- a member's votes are what stands in its place
+pub ballot-at : (s : Suite) (i : ℕ) → i < length (ballots s) → getD (ballots s) i 0 ≡ getD (s .votes) i 0
+ballot-at s i h = let k : i < s .count = omega (arith, length-take (s .count) (s .votes)) in rw getD-take
+
+pub votes-named : (s : Suite) (i set : ℕ) → i < length (ballots s) → set % 2 ≡ 1
+    → votesOf (drop i (ballots s)) set ≡ getD (s .votes) i 0 + votesOf (drop (i + 1) (ballots s)) (set / 2)
+unfolding total
+votes-named s i set h e =
+    ap total (chosen-named (ballots s) i 0 set h e)
+    ∙ ap (λ (v : ℕ). v + votesOf (drop (i + 1) (ballots s)) (set / 2)) (ballot-at s i h)
+
+pub votes-passed : (s : Suite) (i set : ℕ) → i < length (ballots s) → (set % 2 ≡ 1 → ⊥)
+    → votesOf (drop i (ballots s)) set ≡ votesOf (drop (i + 1) (ballots s)) (set / 2)
+votes-passed s i set h e = ap total (chosen-passed (ballots s) i 0 set h e)
+
+pub votes-past : (s : Suite) (i set : ℕ) → length (ballots s) ≤ i → votesOf (drop i (ballots s)) set ≡ 0
+unfolding total
+votes-past s i set h = ap total (chosen-past (ballots s) i set h)
+
+-- the digit of place n, for which there is room
+pub one-shifted : (n : ℕ) → n ≤ 8 → (1 * 2 ^ n) % 2 ^ 32 ≡ 2 ^ n
+one-shifted n h = shl-exact 1 n 32 (omega arith) (omega arith) ∙ one-mul (2 ^ n)
