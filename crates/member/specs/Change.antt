@@ -1,12 +1,12 @@
 -- The changes of a member, in the paper's words, on its rows.
 use mathlib.Core.List.{List, [], _∷_, _++_}
-use mathlib.Core.Bool.{Bool, true, false, cond, _&&_}
-use Prim.Native.Nat.{ℕ, suc, _+_, _-_}
+use mathlib.Core.Bool.{Bool, true, cond, _&&_}
+use Prim.Native.Nat.{ℕ, _+_, _-_}
 use lib.ListN.{length, take, drop, getD, set}
 use lib.Dec.{ltb, leb, eqb}
 use Rattle.member.specs.Limits.{slots, high}
 use Rattle.member.specs.Tile.{none, entries, holding}
-use Rattle.member.specs.Search.{seatIn, nextIn, belowEnd, pastEnd, gapBelow, endBelow}
+use Rattle.member.specs.Search.{belowEnd, pastEnd, endBelow}
 use Rattle.member.specs.Rounds.{bare}
 use Rattle.member.specs.Sound.{inRange}
 use Rattle.member.specs.declared.Row.{Row}

@@ -20,3 +20,4 @@ pub mod RoundTwoBelow
 pub mod RoundTwoAbove
 pub mod OfferLaws
 pub mod SizeLaws
+pub mod Determined

@@ -1,6 +1,6 @@
 -- Where a name or an end belongs among ascending entries. An end is LOW, 0, or the name n, n + 1, or HIGH.
 use mathlib.Core.List.{List, [], _∷_}
-use mathlib.Core.Bool.{Bool, true, false, cond}
+use mathlib.Core.Bool.{cond}
 use Prim.Native.Nat.{ℕ, zero, suc, _+_, _-_}
 use lib.ListN.{length, getD}
 use lib.Dec.{ltb, leb, eqb}

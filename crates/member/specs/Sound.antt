@@ -1,6 +1,6 @@
 -- A member obeys the paper's rules and ranges, and its unused places hold zero.
 use mathlib.Core.List.{List, [], _∷_}
-use mathlib.Core.Bool.{Bool, true, false, _&&_}
+use mathlib.Core.Bool.{Bool, true, _&&_}
 use Prim.Native.Nat.{ℕ, _+_}
 use lib.Dec.{leb, eqb}
 use Rattle.member.specs.Limits.{largestName, largestValue, largestVersion, slots}

@@ -1,6 +1,6 @@
 -- A tile's entries, its reading at a name, and the tile with other entries in place of its own.
 use mathlib.Core.List.{List, [], _∷_, _++_}
-use mathlib.Core.Bool.{Bool, true, false, cond}
+use mathlib.Core.Bool.{cond}
 use Prim.Native.Nat.{ℕ}
 use lib.ListN.{length, take, drop, getD, replicate}
 use lib.Dec.{ltb, eqb}

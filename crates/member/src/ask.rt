@@ -4,7 +4,7 @@ use crate::Reading;
 use crate::Row;
 ghost use mathlib.Core.Path.{_≡_};
 ghost use Rattle.member.specs.Tile.{readingOf, rowOf};
-ghost use Rattle.member.specs.Change.{fitsWrite, fitsCoalesce};
+ghost use Rattle.member.specs.Change.{fitsWrite};
 
 impl Member {
     // The reading at a name: its entry (version, value), or else the version of the gap around the name.

@@ -4,7 +4,7 @@ use crate::Member;
 use crate::Row;
 use crate::sound::in_range;
 ghost use mathlib.Core.Path.{_≡_};
-ghost use Prim.Native.Nat.{_+_, _-_, _≤_, _<_};
+ghost use Prim.Native.Nat.{_≤_, _<_};
 ghost use lib.ListN.{length};
 ghost use Rattle.member.specs.Tile.{entries};
 ghost use Rattle.member.specs.Change.{writeOf, dropOf, insertedAt, appendOf};

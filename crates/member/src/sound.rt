@@ -5,7 +5,6 @@ use crate::Row;
 use crate::Value;
 use crate::Version;
 ghost use mathlib.Core.Path.{_≡_};
-ghost use lib.ListN.{length};
 ghost use Rattle.member.specs.Sound.{inRange, isNone, ascends, allNone, soundMember};
 ghost use Rattle.member.specs.Tile.{entries, unused};
 

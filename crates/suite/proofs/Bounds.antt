@@ -32,7 +32,7 @@ bare-within e k h = go (eqb k e)
   where
     go : (b : Bool) → endWithin (cond b (Offer.Is (record { end = e; version = 0; value = 0 })) Offer.Nothing)
     go true = h
-    go false = 0
+    go false = tt
 
 last-within : (k v : ℕ) (o : Offer) (l : List Row) → endWithin o → endWithin (lastOffer k v o l)
 unfolding lastOffer

@@ -1,12 +1,11 @@
 -- What a call comes to, by the way that the code takes: refused for its own numbers, refused later, or done.
-use mathlib.Core.Path.{_≡_, refl, sym, ap, ap₂, _∙_}
-use mathlib.Core.List.{List, [], _∷_}
-use mathlib.Core.Bool.{Bool, true, false, cond}
-use Prim.Native.Nat.{ℕ, _+_, _*_, _^_, _≤_, _<_}
+use mathlib.Core.Path.{_≡_, sym, ap, ap₂, _∙_}
+use mathlib.Core.List.{[], _∷_}
+use mathlib.Core.Bool.{true, false}
+use Prim.Native.Nat.{ℕ, _*_, _^_, _≤_, _<_}
 use native.Mathlib.Omega.{arith}
 use borrow.Author.Tests.{lt-ltb, le-ltb, ne-eqb}
 use lib.Count.{ones}
-use lib.Dec.{ltb, eqb}
 use lib.ListN.{length}
 use Rattle.member.specs.Limits.{largestVersion}
 use Rattle.member.specs.declared.Reading.{Reading}

@@ -1,20 +1,18 @@
 -- A list overwritten place by place, as the loops over a set do: up to place i the target, from there on what was there.
-use mathlib.Core.Path.{_≡_, refl, sym, ap, _∙_, subst}
-use mathlib.Core.List.{List, [], _∷_, _++_, map}
-use mathlib.Core.Bool.{Bool, true, false, cond}
-use Prim.Native.Nat.{ℕ, suc, _+_, _-_, _/_, _%_, _≤_, _<_}
+use mathlib.Core.Path.{_≡_, sym, ap, _∙_}
+use mathlib.Core.List.{List, [], _∷_, _++_}
+use Prim.Native.Nat.{ℕ, _+_, _-_, _/_, _%_, _≤_, _<_}
 use native.Mathlib.Nat.{add-zero}
 use native.Mathlib.Omega.{arith}
 use native.Mathlib.Numerals.{add-one}
 use borrow.Author.Tests.{eq-eqb, ne-eqb}
-use lib.Dec.{eqb}
-use lib.ListN.{length, take, drop, getD, set, replicate, length-take, length-drop, take-append-drop, drop-of-length-le}
+use lib.ListN.{length, take, drop, getD, set, length-take, length-drop, take-append-drop, drop-of-length-le}
 use lib.Seq.{drop-cons, drop-drop, getD-drop, getD-take, set-getD}
 use Rattle.member.proofs.Shift.{over-up, over-above}
 use Rattle.member.specs.declared.Member.{Member}
 use Rattle.suite.specs.Sets.{changed}
-use Rattle.suite.specs.Suite.{tiles, withTiles}
-use Rattle.suite.specs.Rows.{tabled, tableOf, noRow}
+use Rattle.suite.specs.Suite.{tiles}
+use Rattle.suite.specs.Rows.{tabled, noRow}
 use Rattle.suite.specs.declared.Suite.{Suite}
 
 module _ {A : Type 0} (t l : List A) (i : ℕ) (v : A) (rest : List A) (h : i < length l) (e : drop i t ≡ v ∷ rest) where

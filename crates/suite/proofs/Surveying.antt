@@ -1,10 +1,9 @@
 -- The two rounds, from the rows that the code reads out of the tables.
-use mathlib.Core.Path.{_≡_, sym, ap, _∙_}
+use mathlib.Core.Path.{_≡_, ap, _∙_}
 use mathlib.Core.List.{List}
 use Prim.Native.Nat.{ℕ, _^_, _<_}
 use lib.ListN.{length, getD}
 use Rattle.member.specs.declared.Reading.{Reading}
-use Rattle.member.specs.declared.Side.{Side}
 use Rattle.suite.specs.Best.{best}
 use Rattle.suite.specs.Sets.{chosen}
 use Rattle.suite.specs.Suite.{tiles}

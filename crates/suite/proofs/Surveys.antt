@@ -1,28 +1,27 @@
 -- What the code reads out of its tables is what the answers of the members come to.
-use mathlib.Core.Path.{_≡_, refl, sym, ap, ap₂, _∙_}
-use mathlib.Core.List.{List, [], _∷_, _++_, map, append-nil}
-use mathlib.Core.Bool.{Bool, true, false}
+use mathlib.Core.Path.{_≡_, refl, sym, ap, _∙_}
+use mathlib.Core.List.{List, [], _∷_, map}
+use mathlib.Core.Bool.{Bool}
 use Prim.Native.Nat.{ℕ, _^_, _<_}
-use lib.ListN.{length, getD}
+use lib.ListN.{length}
 use Rattle.member.specs.Tile.{readingOf}
 use Rattle.member.specs.Rounds.{aroundOf, offerBelowOf, offerAboveOf}
 use Rattle.member.specs.declared.Member.{Member}
 use Rattle.member.specs.declared.Reading.{Reading}
-use Rattle.member.specs.declared.Reading.the-variants.{Entry, Gap}
+use Rattle.member.specs.declared.Reading.the-variants.{Gap}
 use Rattle.member.specs.declared.Around.{Around}
 use Rattle.member.specs.declared.Side.{Side}
 use Rattle.member.specs.declared.Offer.{Offer}
 use Rattle.suite.specs.Best.{best}
 use Rattle.suite.specs.Sets.{chosen, all}
 use Rattle.suite.specs.Suite.{tiles}
-use Rattle.suite.specs.Calls.{Answer, Marked, answerTo, asked, askedOf, picked, itsReading, itsBelow, itsAbove, itsOfferBelow, itsOfferAbove, itsFit, newer, higher, nearer, rankBelow, rankAbove, noSide, boundOr, newest, readingAnswers, roundOne, roundTwo, rounds, gapBelowIn, gapAboveIn, predecessor, successor, allFit}
-use Rattle.suite.specs.Rows.{rowOf, noRow, readingRow, aroundRow, offersRow, fitRow, rowReading, beatsAt, isSet, tableOf, surveyOf}
+use Rattle.suite.specs.Calls.{Answer, answerTo, askedOf, picked, itsReading, itsBelow, itsAbove, itsOfferBelow, itsOfferAbove, itsFit, newer, higher, nearer, rankBelow, rankAbove, noSide, boundOr, newest, readingAnswers, roundOne, gapBelowIn, gapAboveIn, predecessor, successor, allFit}
+use Rattle.suite.specs.Rows.{rowOf, noRow, readingRow, aroundRow, fitRow, rowReading, beatsAt, isSet, tableOf}
 use Rattle.suite.specs.SetLaws.{chosen-table}
 use Rattle.suite.specs.AnswerLaws.{picked-one}
 use Rattle.suite.specs.declared.Suite.{Suite}
 use Rattle.suite.specs.declared.Question.{Question}
 use Rattle.suite.specs.declared.Question.the-variants as question
-use Rattle.suite.specs.declared.rounds.Survey.{Survey}
 use Rattle.suite.proofs.Folds.{newest-row, sideOf, below-row, above-row, around-newest, Both, bothRow, boundAt, predecessor-row, successor-row, fits-row}
 
 map-map : {A B C : Type 0} (f : B → C) (g : A → B) (l : List A) → map (λ a. f (g a)) l ≡ map f (map g l)

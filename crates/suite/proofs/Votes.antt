@@ -2,10 +2,10 @@
 use mathlib.Core.Path.{_≡_, refl, sym, _∙_}
 use mathlib.Core.Logic.{_⊎_, inl, inr}
 use mathlib.Core.List.{List}
-use mathlib.Core.Bool.{Bool, true, false, _&&_}
+use mathlib.Core.Bool.{false, _&&_}
 use Prim.Native.Nat.{ℕ, zero, suc, _+_, _-_, _≤_, _<_}
 use borrow.Author.Tests.{le-leb, lt-leb}
-use lib.Dec.{leb, eqb, eqb·suc-zero, leb·suc-zero}
+use lib.Dec.{leb, eqb·suc-zero, leb·suc-zero}
 use lib.ListN.{length, drop, getD}
 use Rattle.suite.specs.Suite.{smallVote, noVote, largestVote}
 use Rattle.suite.proofs.Used.{usedFrom, used-here, unused-here}

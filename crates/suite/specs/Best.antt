@@ -1,6 +1,6 @@
 -- One fold for everything: of a list of answers, lowest-numbered member first, the first that no other beats.
 use mathlib.Core.List.{List, [], _∷_}
-use mathlib.Core.Bool.{Bool, true, false, cond}
+use mathlib.Core.Bool.{Bool, cond}
 
 -- `beats b a`: b is better than a
 unfoldable pub bestFrom : {A : Type 0} → (A → A → Bool) → A → List A → A

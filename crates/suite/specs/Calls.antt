@@ -1,9 +1,9 @@
 -- The calls: the members' answers come first, and the result is settled from them.
-use mathlib.Core.List.{List, [], _∷_, _++_, map}
-use mathlib.Core.Bool.{Bool, true, false, cond, _&&_, _||_, not}
+use mathlib.Core.List.{List, [], _∷_, _++_}
+use mathlib.Core.Bool.{Bool, cond, _&&_, _||_}
 use Prim.Native.Nat.{ℕ, suc, _+_, _-_, max}
 use lib.ListN.{length}
-use lib.Dec.{leb, ltb, eqb}
+use lib.Dec.{ltb, eqb}
 use Rattle.member.specs.Limits.{largestName, largestValue, largestVersion, high}
 use Rattle.member.specs.Tile.{readingOf}
 use Rattle.member.specs.Rounds.{aroundOf, offerBelowOf, offerAboveOf, bare}

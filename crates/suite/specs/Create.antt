@@ -1,9 +1,9 @@
 -- Creation takes R, W and a list of votes, one for each member; all members start fresh.
-use mathlib.Core.List.{List, [], _∷_, _++_}
-use mathlib.Core.Bool.{Bool, true, false, cond, _&&_}
+use mathlib.Core.List.{List, [], _++_}
+use mathlib.Core.Bool.{cond, _&&_}
 use Prim.Native.Nat.{ℕ, _-_}
 use lib.ListN.{length, replicate}
-use lib.Dec.{leb, ltb}
+use lib.Dec.{leb}
 use Rattle.member.specs.Tile.{freshTile}
 use Rattle.suite.specs.Sets.{total, all}
 use Rattle.suite.specs.Suite.{quorum, smallVote}

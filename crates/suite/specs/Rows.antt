@@ -9,7 +9,6 @@ use Rattle.member.specs.declared.Member.{Member}
 use Rattle.member.specs.declared.Reading.{Reading}
 use Rattle.member.specs.declared.Reading.the-variants.{Entry, Gap}
 use Rattle.member.specs.declared.Around.{Around}
-use Rattle.member.specs.declared.Bound.{Bound}
 use Rattle.member.specs.declared.Offer.{Offer}
 use Rattle.member.specs.declared.Offer.the-variants.{Is, Nothing}
 use Rattle.suite.specs.Calls.{Answer, reads, sees, offers, fits, Marked, rankBelow, rankAbove, boundOr, newest, gapBelowIn, gapAboveIn, predecessor, successor}
@@ -39,7 +38,7 @@ aroundRow a =
 
 abbrev pub endWithin : Offer → Type 0
 endWithin (Is b) = b .end ≤ high
-endWithin Nothing = ℕ
+endWithin Nothing = Unit {0}
 
 unfoldable pub offersRow : Offer → Offer → List ℕ
 offersRow o p =

@@ -1,6 +1,6 @@
 -- Sets are given as a number; bit i names member i.
-use mathlib.Core.List.{List, [], _∷_, _++_}
-use mathlib.Core.Bool.{Bool, true, false, cond, _&&_}
+use mathlib.Core.List.{List, [], _∷_}
+use mathlib.Core.Bool.{Bool, true, cond, _&&_}
 use Prim.Native.Nat.{ℕ, _+_, _/_, _%_, _^_}
 use lib.ListN.{length}
 use lib.Dec.{eqb}

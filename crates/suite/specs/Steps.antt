@@ -1,6 +1,6 @@
 -- What the code's own steps come to, once a name's presence is settled: refusals 12 and 13, or the members written.
-use mathlib.Core.List.{List, [], _∷_}
-use mathlib.Core.Bool.{Bool, true, false, cond}
+use mathlib.Core.List.{[], _∷_}
+use mathlib.Core.Bool.{cond}
 use Prim.Native.Nat.{ℕ, _+_, _*_, max}
 use lib.Count.{ones}
 use lib.Dec.{ltb}

@@ -1,10 +1,10 @@
 -- A suite's members and votes, and when it is sound.
-use mathlib.Core.List.{List, [], _∷_, _++_}
-use mathlib.Core.Bool.{Bool, true, false, cond, _&&_}
+use mathlib.Core.List.{List, _++_}
+use mathlib.Core.Bool.{Bool, _&&_}
 use Prim.Native.Nat.{ℕ, _+_}
 use lib.ListN.{length, take, drop}
 use lib.Dec.{leb, ltb, eqb}
-use Rattle.member.specs.Tile.{entries, freshTile}
+use Rattle.member.specs.Tile.{entries}
 use Rattle.member.specs.Sound.{soundMember}
 use Rattle.member.specs.declared.Member.{Member}
 use Rattle.suite.specs.Sets.{total, all}

@@ -9,7 +9,7 @@ ghost use Prim.Native.Nat.{_≤_};
 ghost use lib.ListN.{length};
 ghost use Rattle.suite.specs.Sets.{all};
 ghost use Rattle.suite.specs.Suite.{smallVote};
-ghost use Rattle.suite.specs.Create.{blank, freshSuite, padded, createOf, createdOf};
+ghost use Rattle.suite.specs.Create.{blank, padded, createOf, createdOf};
 
 // Is no vote over 15?
 fn votes_fit(votes: &[u32]) -> bool

@@ -11,7 +11,7 @@ use member::Name;
 use member::Offer;
 use member::Reading;
 ghost use mathlib.Core.Path.{_≡_};
-ghost use Prim.Native.Nat.{_<_, _≤_};
+ghost use Prim.Native.Nat.{_<_};
 ghost use Rattle.suite.specs.Best.{best};
 ghost use Rattle.suite.specs.Sets.{chosen, all};
 ghost use Rattle.suite.specs.Calls.{boundOr, rankBelow, rankAbove};

@@ -1,6 +1,5 @@
 // The calls on a suite that its holder knows to be sound, because it was made by creation, by these calls or by the image
 // reader. They judge everything but refusal 1.
-use crate::Change;
 use crate::Changed;
 use crate::Judged;
 use crate::Looked;
@@ -8,7 +7,6 @@ use crate::Near;
 use crate::Refusal;
 use crate::Suite;
 use member::Reading;
-use member::Version;
 ghost use mathlib.Core.Path.{_≡_};
 ghost use Rattle.suite.specs.Outcome.{lookedOf, nearOf};
 ghost use Rattle.suite.specs.Calls.{stepOf, lookup, insert, update, remove, neighbours, resultOf};

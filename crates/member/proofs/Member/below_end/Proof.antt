@@ -1,7 +1,5 @@
 use borrow.Author.Needs.{needs}
 use borrow.Author.Tests.{eq-eqb, ne-eqb, le-leb, lt-leb}
-use mathlib.Core.Path.{_≡_, _∙_, sym, ap}
-use native.Mathlib.Omega.{arith}
 use Rattle.member.specs.Search.{belowEnd}
 use Rattle.member.proofs.Member.below_end.Statement.{statement}
 use Rattle.member.proofs.Member.below_end.Tie as tie

@@ -1,7 +1,5 @@
 use borrow.Author.Needs.{needs}
-use borrow.Author.Tests.{eq-eqb, ne-eqb, le-leb, lt-leb}
-use mathlib.Core.Path.{_≡_, _∙_, sym, ap}
-use native.Mathlib.Omega.{arith}
+use borrow.Author.Tests.{le-leb, lt-leb}
 use Rattle.member.proofs.search.end_of.Statement.{statement}
 use Rattle.member.proofs.search.end_of.Tie as tie
 use Rattle.member.proofs.search.end_of.Reads as reads

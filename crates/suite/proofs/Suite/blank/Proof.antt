@@ -1,5 +1,4 @@
 -- `blank` has no members: every place is fresh.
-
 use borrow.Author.Needs.{needs}
 use Rattle.suite.proofs.Suite.blank.Statement.{statement}
 use Rattle.suite.proofs.Suite.blank.Tie as tie

@@ -1,5 +1,5 @@
 -- `join` coalesces the neighbours found with a version above all that the gap replaces, unless that is too large or a member has no place.
-use mathlib.Core.Path.{_≡_, refl, sym, ap, ap₂, _∙_}
+use mathlib.Core.Path.{_≡_, refl, sym, ap, _∙_}
 use mathlib.Core.Bool.{true, false}
 use Prim.Native.Nat.{_+_, _*_, max}
 use native.Mathlib.Omega.{arith}

@@ -1,5 +1,5 @@
 -- `lookup` checks the suite first.
-use mathlib.Core.Path.{_≡_, refl, sym, ap, ap₂, _∙_}
+use mathlib.Core.Path.{sym, ap, _∙_}
 use Rattle.suite.specs.Calls.{lookup, Result}
 use Rattle.suite.specs.Agree.{call-sound, call-unsound}
 use borrow.Author.Needs.{needs}

@@ -1,5 +1,5 @@
 -- `lookup_unchecked` is the lookup of the definitions.
-use mathlib.Core.Path.{_≡_, refl, sym, ap, ap₂, _∙_}
+use mathlib.Core.Path.{_≡_}
 use lib.ListN.{length}
 use Rattle.suite.specs.Accepted.{one-vote-each, judged-fine}
 use Rattle.suite.specs.Suite.{ballots, tiles}

@@ -1,5 +1,5 @@
 -- `neighbours` checks the suite first.
-use mathlib.Core.Path.{_≡_, refl, sym, ap, ap₂, _∙_}
+use mathlib.Core.Path.{sym, ap, _∙_}
 use Rattle.suite.specs.Calls.{neighbours, Result}
 use Rattle.suite.specs.Agree.{call-sound, call-unsound}
 use borrow.Author.Needs.{needs}

@@ -1,5 +1,4 @@
 -- A refused creation has the blank suite beside it.
-
 use borrow.Author.Needs.{needs}
 use Rattle.suite.proofs.Suite.not_created.Statement.{statement}
 use Rattle.suite.proofs.Suite.not_created.Tie as tie

@@ -1,5 +1,5 @@
 -- `survey` reads the two rounds out of their tables.
-use mathlib.Core.Path.{_≡_, refl, sym, ap, ap₂, _∙_}
+use mathlib.Core.Path.{ap, _∙_}
 use Rattle.suite.specs.Best.{best}
 use Rattle.suite.specs.Sets.{chosen}
 use Rattle.suite.specs.Rows.{rowReading, beatsAt, noRow}

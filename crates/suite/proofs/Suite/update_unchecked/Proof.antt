@@ -1,5 +1,5 @@
 -- `update_unchecked` is the update of the definitions.
-use mathlib.Core.Path.{_≡_, refl, sym, ap, ap₂, _∙_}
+use mathlib.Core.Path.{_≡_, sym, ap, _∙_}
 use lib.ListN.{length}
 use Rattle.suite.specs.Accepted.{one-vote-each, judged-fine}
 use Rattle.suite.specs.Suite.{ballots, tiles}

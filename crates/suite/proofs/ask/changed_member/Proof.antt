@@ -1,7 +1,6 @@
 -- `changed_member` is the member's own change.
 use mathlib.Core.Path.{sym, ap, _∙_}
 use borrow.Author.Needs.{needs}
-use Rattle.member.specs.declared.Member.{Member}
 use Rattle.suite.specs.Calls.{effectOf}
 use Rattle.suite.specs.declared.Effect.{Effect}
 use Rattle.suite.proofs.ask.changed_member.Statement.{statement}
