@@ -1,0 +1,71 @@
+-- `read` reads the suite, and looks at what is left behind it.
+use native.Mathlib.Omega.{arith}
+use mathlib.Core.Path.{_≡_, sym, ap, subst, _∙_}
+use Rattle.suite.specs.Outcome.{numberOf}
+use Rattle.image.specs.Reader.{took, fault, readSuite, ended, readImage, loadedOf}
+use Rattle.image.specs.Steps.{placedOf, endsBy}
+use Rattle.image.specs.declared.reader.Place.{Place}
+use Rattle.image.proofs.Shapes.{suite-matches}
+use borrow.Author.Needs.{needs}
+use Rattle.image.proofs.read.Statement.{statement}
+use Rattle.image.proofs.read.Tie as tie
+
+-- the suite that was taken, and where its fields end
+taken : (c : tie.After-place) → took (c .before .before .read-suite .result .suite) (c .place .given .0 .0) ≡ readSuite (c .before .before .before .before .args .bytes .now) 20 0
+taken c =
+    sym (ap (λ (x : Place). placedOf x (c .before .before .read-suite .result .suite)) (c .place .given .1)) ∙ c .before .before .read-suite .ensures .0
+
+read-suite-requires : tie.Need-read-suite-requires
+read-suite-requires c κs = search needs
+
+enum-known-place : tie.Need-enum-known-place
+enum-known-place c = search needs
+
+only-padding-requires : tie.Need-only-padding-requires
+only-padding-requires c κs =
+    let p = c .before .place in
+    let r = c .before .before .before .read-suite in (
+      suite-matches (c .before .before .before .before .before .args .bytes .now) 20 (omega arith) .only (r .result .suite) 0 (p .given .0 .0) (sym (taken (c .before))) .1 (omega arith) .within,
+      subst (λ (x : Place). endsBy x 21797) (p .given .1) (r .ensures .1),
+    )
+
+returns : tie.Need-returns
+unfolding readImage ended
+returns c = rw (← taken (c .before .before .before .before), sym (c .before .before .only-padding .ensures) ∙ c .before .if1 .taken)
+
+not-loaded-requires : tie.Need-not-loaded-requires
+not-loaded-requires c κs = search needs
+
+enum-known-place-2 : tie.Need-enum-known-place-2
+enum-known-place-2 c = search needs
+
+not-loaded-requires-2 : tie.Need-not-loaded-requires-2
+not-loaded-requires-2 c κs = search needs
+
+returns-2 : tie.Need-returns-2
+unfolding readImage ended
+returns-2 c =
+    rw (← taken (c .before .before .before .before), sym (c .before .before .only-padding .ensures) ∙ c .before .if1 .left) (ap loadedOf (c .not-loaded .ensures))
+
+returns-3 : tie.Need-returns-3
+unfolding readImage ended
+returns-3 c =
+    let r = c .before .before .before .before .read-suite in
+    let e : fault (numberOf (c .before .before .place2 .given .0 .0)) ≡ readSuite (c .before .before .before .before .before .before .args .bytes .now) 20 0 =
+    sym (ap (λ (x : Place). placedOf x (r .result .suite)) (c .before .before .place2 .given .1)) ∙ r .ensures .0
+    in
+    rw (← e) (ap loadedOf (c .not-loaded2 .ensures))
+
+pub read-spec : {M : Type 1} → statement M
+read-spec =
+    tie.close
+    (tie.spec
+    read-suite-requires
+    enum-known-place
+    only-padding-requires
+    returns
+    not-loaded-requires
+    enum-known-place-2
+    not-loaded-requires-2
+    returns-2
+    returns-3)

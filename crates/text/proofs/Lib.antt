@@ -1,0 +1,14 @@
+pub mod Places
+pub mod Numbers
+pub mod Letters
+pub mod Same
+pub mod Sets
+pub mod Arguments
+pub mod Votes
+pub mod Commands
+pub mod Writing
+pub mod Printing
+pub mod Longest
+pub mod Reading
+pub mod Listing
+pub mod Determined

@@ -1,0 +1,117 @@
+-- `text::grammar::removing`: two sets, a name, and nothing more.
+use mathlib.Core.Path.{sym, _∙_}
+use borrow.Author.Needs.{needs}
+use Rattle.text.specs.Line.{removing, notUnderstood}
+use Rattle.text.proofs.Arguments.{set-goes, set-stops, number-goes, number-stops, ends-here, goes-on}
+use Rattle.text.proofs.grammar.removing.Statement.{statement}
+use Rattle.text.proofs.grammar.removing.Tie as tie
+
+set-at-requires : tie.Need-set-at-requires
+set-at-requires c κs = search needs
+
+enum-known-read : tie.Need-enum-known-read
+enum-known-read c = search needs
+
+enum-told : tie.Need-enum-told
+enum-told c = search needs
+
+alone-requires : tie.Need-alone-requires
+alone-requires c κs = search needs
+
+returns : tie.Need-returns
+unfolding removing notUnderstood
+returns c =
+    c .alone .ensures
+    ∙ sym
+    (set-stops _ _ (c .before .before .before .set-at .ensures) (c .before .enum-told .given .1) _)
+
+set-at-requires-2 : tie.Need-set-at-requires-2
+set-at-requires-2 c κs = search needs
+
+enum-known-write : tie.Need-enum-known-write
+enum-known-write c = search needs
+
+enum-told-2 : tie.Need-enum-told-2
+enum-told-2 c = search needs
+
+alone-requires-2 : tie.Need-alone-requires-2
+alone-requires-2 c κs = search needs
+
+returns-2 : tie.Need-returns-2
+unfolding removing notUnderstood
+returns-2 c =
+    c .alone2 .ensures
+    ∙ sym
+    (set-goes _ _ (c .before .before .before .before .before .before .before .set-at .ensures) (c .before .before .before .before .before .read .given .1) _
+    ∙ (set-stops _ _ (c .before .before .before .set-at2 .ensures) (c .before .enum-told2 .given .1) _))
+
+number-at-requires : tie.Need-number-at-requires
+number-at-requires c κs = search needs
+
+enum-known-name : tie.Need-enum-known-name
+enum-known-name c = search needs
+
+enum-told-3 : tie.Need-enum-told-3
+enum-told-3 c = search needs
+
+alone-requires-3 : tie.Need-alone-requires-3
+alone-requires-3 c κs = search needs
+
+returns-3 : tie.Need-returns-3
+unfolding removing notUnderstood
+returns-3 c =
+    c .alone3 .ensures
+    ∙ sym
+    (set-goes _ _ (c .before .before .before .before .before .before .before .before .before .before .before .set-at .ensures) (c .before .before .before .before .before .before .before .before .before .read .given .1) _
+    ∙ (set-goes _ _ (c .before .before .before .before .before .before .before .set-at2 .ensures) (c .before .before .before .before .before .write .given .1) _
+    ∙ (number-stops _ _ (c .before .before .before .number-at .ensures) (c .before .enum-told3 .given .1) _)))
+
+alone-requires-4 : tie.Need-alone-requires-4
+alone-requires-4 c κs = search needs
+
+returns-4 : tie.Need-returns-4
+unfolding removing notUnderstood
+returns-4 c =
+    c .alone4 .ensures
+    ∙ sym
+    (set-goes _ _ (c .before .before .before .before .before .before .before .before .before .before .before .before .before .set-at .ensures) (c .before .before .before .before .before .before .before .before .before .before .before .read .given .1) _
+    ∙ (set-goes _ _ (c .before .before .before .before .before .before .before .before .before .set-at2 .ensures) (c .before .before .before .before .before .before .before .write .given .1) _
+    ∙ (number-goes _ _ (c .before .before .before .before .before .number-at .ensures) (c .before .before .before .name .given .1) _
+    ∙ (goes-on _ _ (c .before .if1 .taken) _))))
+
+alone-requires-5 : tie.Need-alone-requires-5
+alone-requires-5 c κs = search needs
+
+returns-5 : tie.Need-returns-5
+unfolding removing notUnderstood
+returns-5 c =
+    c .alone5 .ensures
+    ∙ sym
+    (set-goes _ _ (c .before .before .before .before .before .before .before .before .before .before .before .before .before .set-at .ensures) (c .before .before .before .before .before .before .before .before .before .before .before .read .given .1) _
+    ∙ (set-goes _ _ (c .before .before .before .before .before .before .before .before .before .set-at2 .ensures) (c .before .before .before .before .before .before .before .write .given .1) _
+    ∙ (number-goes _ _ (c .before .before .before .before .before .number-at .ensures) (c .before .before .before .name .given .1) _
+    ∙ (ends-here _ _ (c .before .if1 .left) _))))
+
+pub removing-spec : {M : Type 1} → statement M
+removing-spec =
+    tie.close
+    (tie.spec
+    set-at-requires
+    enum-known-read
+    enum-told
+    alone-requires
+    returns
+    set-at-requires-2
+    enum-known-write
+    enum-told-2
+    alone-requires-2
+    returns-2
+    number-at-requires
+    enum-known-name
+    enum-told-3
+    alone-requires-3
+    returns-3
+    alone-requires-4
+    returns-4
+    alone-requires-5
+    returns-5)

@@ -1,0 +1,4 @@
+pub mod Words
+pub mod Line
+pub mod Scan
+pub mod Answer
