@@ -21,3 +21,4 @@ pub mod Goes
 pub mod Start
 pub mod Sized
 pub mod Reach
+pub mod Images

@@ -18,14 +18,7 @@ use Rattle.suite.specs.Create.{freshSuite}
 use Rattle.suite.specs.Agree.{settled, call-sound, step-refused, step-answered}
 use Rattle.suite.specs.Kept.{all-changed, length-changed}
 use Rattle.suite.specs.declared.Suite.{Suite}
-
-abbrev pub hasPlaces : Member → Bool
-hasPlaces m = eqb (length (m .rows)) slots
-
-pub record Sized (s : Suite) : Type 0 where
-  pub members : length (s .members) ≡ 8
-  pub votes : length (s .votes) ≡ 8
-  pub rows : all hasPlaces (s .members) ≡ true
+pub use Rattle.image.specs.Sized.{Sized, hasPlaces}
 
 -- a test of all members, in two parts
 all-append : {A : Type 0} (f : A → Bool) (a b : List A) → all f (a ++ b) ≡ (all f a && all f b)
