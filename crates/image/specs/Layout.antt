@@ -1,4 +1,4 @@
--- Document 01, "Suite image": the fields of a suite's image, each with its width and its number, in the paper's order.
+-- The rules paper, "Suite image": the fields of a suite's image, each with its width and its number, in the paper's order.
 use mathlib.Core.List.{List, [], _∷_, _++_, map, flatMap}
 use Prim.Native.Nat.{ℕ, _+_, _-_, _*_}
 use lib.ListN.{length}

@@ -1,4 +1,4 @@
--- Document 01, "Suite image": the reader goes in field order and its first fault decides.
+-- The rules paper, "Suite image": the reader goes in field order and its first fault decides.
 use mathlib.Core.List.{List, [], _∷_, _++_}
 use mathlib.Core.Bool.{Bool, true, false, cond, _&&_}
 use Prim.Native.Nat.{ℕ, zero, suc, _+_, _-_}
