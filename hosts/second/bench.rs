@@ -13,40 +13,25 @@ pub const NEIGHBOURS: u32 = 4;
 
 pub const ANSWER: usize = 16;
 
+/// What a call asks for. Numbers that an operation lacks are ignored.
+#[derive(Clone, Copy, PartialEq, Eq, Debug)]
+pub struct Asked {
+    pub op: u32,
+    pub read_set: u32,
+    pub write_set: u32,
+    pub name: u32,
+    pub value: u32,
+}
+
 /// Gives 0, or the number of the refusal; then both lent buffers are as they were.
-#[allow(clippy::too_many_arguments)]
-pub fn step(
-    op: u32,
-    read_set: u32,
-    write_set: u32,
-    name: u32,
-    value: u32,
-    image_in: &[u8],
-    image_out: &mut [u8],
-    answer: &mut [u8],
-) -> u32 {
-    let call = Call {
-        op,
-        read_set,
-        write_set,
-        name,
-        value,
-    };
-    match call.carry_out(image_in, image_out, answer) {
+pub fn step(asked: Asked, image_in: &[u8], image_out: &mut [u8], answer: &mut [u8]) -> u32 {
+    match asked.carry_out(image_in, image_out, answer) {
         Ok(()) => 0,
         Err(refusal) => refusal.number(),
     }
 }
 
-struct Call {
-    op: u32,
-    read_set: u32,
-    write_set: u32,
-    name: u32,
-    value: u32,
-}
-
-impl Call {
+impl Asked {
     fn carry_out(
         &self,
         image_in: &[u8],
@@ -77,9 +62,9 @@ impl Call {
         Ok(())
     }
 
-    /// The operation itself and the four numbers of its answer.
-    fn ask(&self, suite: &mut Suite) -> Result<[u32; 4], Refusal> {
-        let &Call {
+    /// The operation itself, one of the five, and the four numbers of its answer.
+    pub fn ask(&self, suite: &mut Suite) -> Result<[u32; 4], Refusal> {
+        let &Asked {
             op,
             read_set,
             write_set,

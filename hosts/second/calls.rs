@@ -5,26 +5,49 @@
 //! the bytes of image in, length of image out, length of the answer. A file of
 //! images has the length and the bytes alone.
 
+use crate::bench::Asked;
+
+/// The bench call of some program.
+pub type Step = fn(Asked, &[u8], &mut [u8], &mut [u8]) -> u32;
+
 #[derive(Clone, PartialEq, Eq, Debug)]
 pub struct Call {
-    pub op: u32,
-    pub read_set: u32,
-    pub write_set: u32,
-    pub name: u32,
-    pub value: u32,
+    pub asked: Asked,
     pub image_in: Vec<u8>,
+    /// The lengths of the buffers that are lent.
     pub image_out: usize,
     pub answer: usize,
 }
 
+/// What a call gave, and both lent buffers after it.
+#[derive(Clone, PartialEq, Eq, Debug)]
+pub struct Outcome {
+    pub result: u32,
+    pub image_out: Vec<u8>,
+    pub answer: Vec<u8>,
+}
+
 impl Call {
+    /// Hands the call over, every lent byte being `fill` before.
+    pub fn outcome(&self, step: Step, fill: u8) -> Outcome {
+        let mut image_out = vec![fill; self.image_out];
+        let mut answer = vec![fill; self.answer];
+        let result = step(self.asked, &self.image_in, &mut image_out, &mut answer);
+        Outcome {
+            result,
+            image_out,
+            answer,
+        }
+    }
+
     pub fn write(&self, file: &mut Vec<u8>) {
+        let asked = self.asked;
         for number in [
-            self.op,
-            self.read_set,
-            self.write_set,
-            self.name,
-            self.value,
+            asked.op,
+            asked.read_set,
+            asked.write_set,
+            asked.name,
+            asked.value,
         ] {
             write_number(number, file);
         }
@@ -39,11 +62,13 @@ impl Call {
             return None;
         }
         Some(Call {
-            op: read_number(file)?,
-            read_set: read_number(file)?,
-            write_set: read_number(file)?,
-            name: read_number(file)?,
-            value: read_number(file)?,
+            asked: Asked {
+                op: read_number(file)?,
+                read_set: read_number(file)?,
+                write_set: read_number(file)?,
+                name: read_number(file)?,
+                value: read_number(file)?,
+            },
             image_in: read_image(file)?,
             image_out: read_number(file)? as usize,
             answer: read_number(file)? as usize,

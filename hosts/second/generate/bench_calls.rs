@@ -1,7 +1,7 @@
 //! Bench calls: lone ones on suites and images of any kind, and long histories in
 //! which each call starts from the suite that the one before left.
 
-use second::bench;
+use second::bench::{self, Asked};
 use second::calls::Call;
 use second::image;
 use second::suite::Suite;
@@ -40,7 +40,8 @@ impl Source {
         let mut call = self.call(random);
         if random.once_in(6) {
             if let Some(crowded) = suites::crowded(random, &self.suite, &self.names) {
-                (call.read_set, call.write_set, call.name) = crowded;
+                let asked = &mut call.asked;
+                (asked.read_set, asked.write_set, asked.name) = crowded;
             }
         }
         if let Some(suite) = after(&call) {
@@ -66,11 +67,13 @@ impl Source {
             random.between(0, 4)
         };
         Call {
-            op,
-            read_set: any_set(random, suite, suite.read),
-            write_set: any_set(random, suite, suite.write),
-            name: any_name(random, &self.names),
-            value: any_value(random),
+            asked: Asked {
+                op,
+                read_set: any_set(random, suite, suite.read),
+                write_set: any_set(random, suite, suite.write),
+                name: any_name(random, &self.names),
+                value: any_value(random),
+            },
             image_in: if random.once_in(7) {
                 images::damaged(random, suite)
             } else {
@@ -86,22 +89,12 @@ impl Source {
     }
 }
 
-/// The suite that a call with room enough leaves, if it is not refused.
+/// The suite that a change with room enough leaves, if it is not refused.
 fn after(call: &Call) -> Option<Suite> {
-    let Call {
-        op,
-        read_set,
-        write_set,
-        name,
-        value,
-        ..
-    } = *call;
+    if !matches!(call.asked.op, bench::INSERT | bench::UPDATE | bench::REMOVE) {
+        return None;
+    }
     let mut suite = image::read(&call.image_in).ok()?;
-    match op {
-        bench::INSERT => suite.insert(read_set, write_set, name, value).ok()?,
-        bench::UPDATE => suite.update(read_set, write_set, name, value).ok()?,
-        bench::REMOVE => suite.remove(read_set, write_set, name).ok()?,
-        _ => return None,
-    };
+    call.asked.ask(&mut suite).ok()?;
     Some(suite)
 }

@@ -7,13 +7,16 @@ mod script;
 mod speed;
 mod suites;
 mod tally;
+mod tally_calls;
+mod tally_lines;
 
 use std::fs;
 use std::io::{self, Write};
 use std::process::ExitCode;
 
 use random::Random;
-use second::calls;
+use second::{bench, calls};
+use tally::Counts;
 
 const USAGE: &str = "usage:
   generate script SEED COUNT        a script of COUNT lines on standard output
@@ -68,11 +71,36 @@ fn run(words: &[&str]) -> Option<io::Result<bool>> {
             fs::write(file, bytes)
         }
         ("tally", [_]) => {
-            let (table, complete) = tally::run(&mut random, count);
+            let (table, complete) = tallied(&mut random, count);
             return Some(io::stdout().write_all(table.as_bytes()).map(|()| complete));
         }
         ("speed-script", []) => io::stdout().write_all(&speed::text(&mut random)),
         _ => return None,
     };
     Some(written.map(|()| true))
+}
+
+/// Runs so many lines and so many calls; gives the table and whether all was seen.
+fn tallied(random: &mut Random, count: usize) -> (String, bool) {
+    let mut table = String::new();
+    let counts = tally_lines::count(random, count);
+    let lines = tally::show(&mut table, "line", &tally_lines::LINE, &counts);
+    let counts = tallied_calls(random, count);
+    let calls = tally::show(&mut table, "bench", &tally_calls::BENCH, &counts);
+    (table, lines && calls)
+}
+
+/// Each call goes through a record of the file of calls.
+fn tallied_calls(random: &mut Random, count: usize) -> Counts {
+    let mut counts = Counts::new();
+    let mut source = bench_calls::Source::new(random);
+    for _ in 0..count {
+        let mut file = Vec::new();
+        source.next(random).write(&mut file);
+        let call = calls::Call::read(&mut &file[..]).expect("the record just written");
+        let outcome = call.outcome(bench::step, tally_calls::FILL);
+        tally_calls::check_buffers(&outcome);
+        tally_calls::note(&mut counts, &call, &outcome);
+    }
+    counts
 }

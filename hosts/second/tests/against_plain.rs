@@ -1,7 +1,6 @@
 //! Everything that the generator makes, against the plain maps.
 
-use second::bench;
-use second::calls::Call;
+use second::bench::{self, Asked as Numbers};
 
 use crate::bench_calls::Source;
 use crate::images;
@@ -11,29 +10,34 @@ use crate::script;
 
 const FILL: u8 = 0xa5;
 
-fn plain_step(call: &Call, image_out: &mut [u8], answer: &mut [u8]) -> Result<(), u32> {
-    if call.op > 4 {
+fn plain_step(
+    numbers: Numbers,
+    image_in: &[u8],
+    image_out: &mut [u8],
+    answer: &mut [u8],
+) -> Result<(), u32> {
+    if numbers.op > 4 {
         return Err(14);
     }
     if answer.len() < 16 {
         return Err(19);
     }
-    let mut suite = plain::image::read(&call.image_in)?;
+    let mut suite = plain::image::read(image_in)?;
     let lookup = Asked {
-        read_set: u64::from(call.read_set),
+        read_set: u64::from(numbers.read_set),
         write_set: None,
-        name: u64::from(call.name),
+        name: u64::from(numbers.name),
         value: None,
     };
     let remove = Asked {
-        write_set: Some(u64::from(call.write_set)),
+        write_set: Some(u64::from(numbers.write_set)),
         ..lookup
     };
     let put = Asked {
-        value: Some(u64::from(call.value)),
+        value: Some(u64::from(numbers.value)),
         ..remove
     };
-    let numbers = match call.op {
+    let settled = match numbers.op {
         0 => suite.lookup(lookup)?,
         1 => suite.put(put, false)?,
         2 => suite.put(put, true)?,
@@ -45,7 +49,7 @@ fn plain_step(call: &Call, image_out: &mut [u8], answer: &mut [u8]) -> Result<()
         return Err(19);
     }
     image_out[..image.len()].copy_from_slice(&image);
-    let bytes: Vec<u8> = numbers
+    let bytes: Vec<u8> = settled
         .iter()
         .flat_map(|number| (*number as u32).to_be_bytes())
         .collect();
@@ -59,29 +63,14 @@ fn bench_calls_agree() {
     let mut source = Source::new(&mut random);
     for _ in 0..6_000 {
         let call = source.next(&mut random);
-        let (mut image, mut answer) = (vec![FILL; call.image_out], vec![FILL; call.answer]);
-        let (mut plain_image, mut plain_answer) = (image.clone(), answer.clone());
-        let Call {
-            op,
-            read_set,
-            write_set,
-            name,
-            value,
-            ..
-        } = call;
-        let result = bench::step(
-            op,
-            read_set,
-            write_set,
-            name,
-            value,
-            &call.image_in,
-            &mut image,
-            &mut answer,
+        let plain = call.outcome(
+            |numbers, image_in, image_out, answer| {
+                let done = plain_step(numbers, image_in, image_out, answer);
+                done.err().unwrap_or(0)
+            },
+            FILL,
         );
-        let plain = plain_step(&call, &mut plain_image, &mut plain_answer);
-        assert_eq!(result, plain.err().unwrap_or(0), "{call:?}");
-        assert_eq!((image, answer), (plain_image, plain_answer), "{call:?}");
+        assert_eq!(call.outcome(bench::step, FILL), plain, "{call:?}");
     }
 }
 

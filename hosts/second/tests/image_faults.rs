@@ -1,6 +1,7 @@
 //! Refusals 15 to 19: each field of the image and each lent buffer.
 
-use second::bench;
+use second::bench::{self, Asked};
+use second::calls::Call;
 use second::image;
 use second::refusal::Refusal;
 use second::suite::Suite;
@@ -185,10 +186,24 @@ fn the_bench_s_buffers_and_their_order() {
     assert_eq!(good.len(), fresh.div_ceil(8));
     let after = (fresh + 84).div_ceil(8);
     let step = |op, read_set, image: &[u8], image_out: usize, answer: usize| {
-        let (mut image_out, mut answer) = (vec![7; image_out], vec![7; answer]);
-        let result = bench::step(op, read_set, 1, 5, 6, image, &mut image_out, &mut answer);
-        assert!(result == 0 || image_out.iter().chain(&answer).all(|&byte| byte == 7));
-        result
+        let asked = Asked {
+            op,
+            read_set,
+            write_set: 1,
+            name: 5,
+            value: 6,
+        };
+        let image_in = image.to_vec();
+        let call = Call {
+            asked,
+            image_in,
+            image_out,
+            answer,
+        };
+        let outcome = call.outcome(bench::step, 7);
+        let mut lent = outcome.image_out.iter().chain(&outcome.answer);
+        assert!(outcome.result == 0 || lent.all(|&byte| byte == 7));
+        outcome.result
     };
     assert_eq!(step(4, 1, &good, good.len(), 16), 0);
     assert_eq!(step(5, 1, &[], 0, 0), 14);

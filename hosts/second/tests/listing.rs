@@ -1,8 +1,11 @@
 //! The paper's listing, on the line and through the bench call.
 
-use second::bench::{self, INSERT, LOOKUP, NEIGHBOURS, REMOVE};
+use second::bench::{self, Asked, INSERT, LOOKUP, NEIGHBOURS, REMOVE};
+use second::calls::Call;
 use second::image;
 use second::suite::Suite;
+
+use crate::images;
 
 const LISTING: &str = "\
 suite 2 2 1 1 1   -> suite ok
@@ -43,9 +46,7 @@ fn on_the_line() {
 
 #[test]
 fn through_the_bench() {
-    let mut image_in = [0; image::LONGEST];
-    let mut length =
-        image::write(&Suite::create(2, 2, &[1, 1, 1]).unwrap(), &mut image_in).unwrap();
+    let mut image = images::of(&Suite::create(2, 2, &[1, 1, 1]).unwrap());
     let calls = [
         (INSERT, 3, 3, 20, 7, 0, [1, 4, 0, 0]),
         (LOOKUP, 6, 99, 20, 99_999, 0, [1, 1, 7, 2]),
@@ -61,30 +62,30 @@ fn through_the_bench() {
         (INSERT, 3, 3, 20, 8, 10, [0; 4]),
     ];
     for (op, read_set, write_set, name, value, expected, numbers) in calls {
-        let mut image_out = [0; image::LONGEST];
-        let mut answer = [0; 16];
-        let image = &image_in[..length];
-        let result = bench::step(
+        let asked = Asked {
             op,
             read_set,
             write_set,
             name,
             value,
-            image,
-            &mut image_out,
-            &mut answer,
-        );
-        assert_eq!(result, expected);
+        };
+        let call = Call {
+            asked,
+            image_in: image.clone(),
+            image_out: image::LONGEST,
+            answer: bench::ANSWER,
+        };
+        let outcome = call.outcome(bench::step, 0);
+        assert_eq!(outcome.result, expected);
         let bytes: Vec<u8> = numbers
             .iter()
             .flat_map(|number: &u32| number.to_be_bytes())
             .collect();
-        assert_eq!(answer[..], bytes);
-        if result == 0 {
-            image_in = image_out;
-            length = (1..)
-                .find(|&length| image::read(&image_in[..length]).is_ok())
-                .unwrap();
+        assert_eq!(outcome.answer, bytes);
+        if outcome.result == 0 {
+            let out = &outcome.image_out;
+            let length = (1..).find(|&length| image::read(&out[..length]).is_ok());
+            image = out[..length.unwrap()].to_vec();
         }
     }
 }
