@@ -7,6 +7,7 @@ pub mod calls;
 pub mod image;
 pub mod line;
 pub mod member;
+mod neighbours;
 pub mod refusal;
 pub mod sound;
 pub mod suite;

@@ -1,6 +1,6 @@
 //! The suite: creation and the five calls, with their refusals in the paper's order.
 
-use crate::member::{Entry, Gap, Member, Reading, LARGEST_NAME, LARGEST_VALUE, LARGEST_VERSION};
+use crate::member::{Entry, Member, Reading, LARGEST_NAME, LARGEST_VALUE, LARGEST_VERSION};
 use crate::refusal::Refusal;
 
 pub const MOST_MEMBERS: usize = 8;
@@ -34,12 +34,6 @@ pub struct Neighbours {
     pub below: Entry,
     pub above: Entry,
     pub requests: u32,
-}
-
-/// A neighbour and the highest version of the gaps next to the name on its side.
-struct Side {
-    gap: u32,
-    neighbour: Entry,
 }
 
 /// R, W and V as a suite must have them. R and W may be any numbers.
@@ -223,50 +217,14 @@ impl Suite {
         }
         slots
     }
-
-    /// Both rounds below the name whose slots are given.
-    #[inline]
-    fn below(&self, set: u32, slots: &[usize; MOST_MEMBERS]) -> Side {
-        let gap = first_best(
-            indices(set).map(|i| self.members[i].gap_below(slots[i])),
-            higher_gap,
-        );
-        Side {
-            gap: gap.version,
-            neighbour: first_best(
-                indices(set)
-                    .filter_map(|i| self.members[i].offer_below(slots[i], gap.end, gap.version)),
-                |entry, best| (entry.name, entry.version) > (best.name, best.version),
-            ),
-        }
-    }
-
-    /// The mirror image above it.
-    #[inline]
-    fn above(&self, set: u32, slots: &[usize; MOST_MEMBERS], name: i32) -> Side {
-        let gap = first_best(
-            indices(set).map(|i| self.members[i].gap_above(slots[i], name)),
-            higher_gap,
-        );
-        Side {
-            gap: gap.version,
-            neighbour: first_best(
-                indices(set).filter_map(|i| {
-                    self.members[i].offer_above(slots[i], name, gap.end, gap.version)
-                }),
-                |entry, best| (-entry.name, entry.version) > (-best.name, best.version),
-            ),
-        }
-    }
-}
-
-fn higher_gap(gap: &Gap, best: &Gap) -> bool {
-    gap.version > best.version
 }
 
 /// The best of the answers; the first of equals, since members come in ascending order.
 #[inline(always)]
-fn first_best<T>(mut answers: impl Iterator<Item = T>, better: impl Fn(&T, &T) -> bool) -> T {
+pub(crate) fn first_best<T>(
+    mut answers: impl Iterator<Item = T>,
+    better: impl Fn(&T, &T) -> bool,
+) -> T {
     let mut best = answers
         .next()
         .expect("a read set holds votes, so some member answers");
@@ -280,7 +238,7 @@ fn first_best<T>(mut answers: impl Iterator<Item = T>, better: impl Fn(&T, &T) -
 
 /// The members that a set names, ascending.
 #[inline]
-fn indices(mut set: u32) -> impl Iterator<Item = usize> {
+pub(crate) fn indices(mut set: u32) -> impl Iterator<Item = usize> {
     std::iter::from_fn(move || {
         (set != 0).then(|| {
             let i = set.trailing_zeros() as usize;

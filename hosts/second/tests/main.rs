@@ -21,4 +21,5 @@ mod line_forms;
 mod listing;
 mod plain;
 mod refusals;
+mod rounds;
 mod soundness;
