@@ -44,9 +44,19 @@ fn on_the_line() {
     );
 }
 
+/// What the C example prints: a line for each call, and after it one with the suite's image.
+const EXAMPLE: &str = include_str!("../../c/example.stdout");
+
+fn image_line(image: &[u8]) -> String {
+    let hex = image.iter().map(|byte| format!("{byte:02x}"));
+    format!("image {}", hex.collect::<String>())
+}
+
 #[test]
 fn through_the_bench() {
     let mut image = images::of(&Suite::create(2, 2, &[1, 1, 1]).unwrap());
+    let mut printed = EXAMPLE.lines().filter(|line| line.starts_with("image "));
+    assert_eq!(printed.next(), Some(&image_line(&image)[..]));
     let calls = [
         (INSERT, 3, 3, 20, 7, 0, [1, 4, 0, 0]),
         (LOOKUP, 6, 99, 20, 99_999, 0, [1, 1, 7, 2]),
@@ -87,5 +97,7 @@ fn through_the_bench() {
             let length = (1..).find(|&length| image::read(&out[..length]).is_ok());
             image = out[..length.unwrap()].to_vec();
         }
+        assert_eq!(printed.next(), Some(&image_line(&image)[..]));
     }
+    assert_eq!(printed.next(), None);
 }
