@@ -20,6 +20,20 @@ pub fn length(suite: &Suite) -> usize {
     bits.div_ceil(8)
 }
 
+/// The length of the image that some bytes start with, found from its number of members and
+/// their counts. It may still be refused.
+pub fn length_in_front(bytes: &[u8]) -> Result<usize, Refusal> {
+    let mut bits = Reader { bytes, at: 0 };
+    bits.skip(4)?;
+    let members = bits.take(3)? as usize + 1;
+    bits.skip(HEAD_BITS - 7 + members * VOTE_BITS)?;
+    for _ in 0..members {
+        let entries = bits.take(6)? as usize;
+        bits.skip(MEMBER_BITS - 6 + entries * ENTRY_BITS)?;
+    }
+    Ok(bits.at.div_ceil(8))
+}
+
 /// Fills the image's length in `out`; later bytes are left alone.
 pub fn write(suite: &Suite, out: &mut [u8]) -> Result<usize, Refusal> {
     let length = length(suite);
@@ -158,6 +172,14 @@ impl Reader<'_> {
         let field = (self.peek() >> (128 - width)) as u64;
         self.at += width;
         Ok(field)
+    }
+
+    fn skip(&mut self, width: usize) -> Result<(), Refusal> {
+        if self.left() < width {
+            return Err(Refusal::ImageShort);
+        }
+        self.at += width;
+        Ok(())
     }
 
     /// Less than a byte may be left, and that must be zero.

@@ -8,6 +8,7 @@ pub mod image;
 pub mod line;
 pub mod member;
 mod neighbours;
+pub mod random;
 pub mod refusal;
 pub mod sound;
 pub mod suite;

@@ -7,8 +7,8 @@ use second::suite::{Suite, MOST_MEMBERS};
 
 use crate::comparison::Comparison;
 use crate::images;
-use crate::random::Random;
 use crate::shapes::{operations, suite};
+use second::random::Random;
 
 /// Small suites, each with names to ask about: held by all, by some, by none.
 fn small() -> Vec<(Suite, Vec<u32>)> {

@@ -5,8 +5,6 @@
 mod bench_calls;
 #[path = "../../second/generate/images.rs"]
 mod images;
-#[path = "../../second/generate/random.rs"]
-mod random;
 #[path = "../../second/generate/suites.rs"]
 mod suites;
 #[path = "../../second/generate/tally.rs"]
@@ -23,7 +21,7 @@ use std::thread;
 
 use bench_calls::Source;
 use comparison::Comparison;
-use random::Random;
+use second::random::Random;
 
 fn main() -> ExitCode {
     let arguments: Vec<u64> = std::env::args()

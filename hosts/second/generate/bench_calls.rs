@@ -7,8 +7,8 @@ use second::image;
 use second::suite::Suite;
 
 use crate::images;
-use crate::random::Random;
 use crate::suites::{self, any_name, any_set, any_value};
+use second::random::Random;
 
 pub struct Source {
     names: Vec<u32>,

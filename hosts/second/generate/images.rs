@@ -3,8 +3,8 @@
 use second::image;
 use second::suite::Suite;
 
-use crate::random::Random;
 use crate::suites;
+use second::random::Random;
 
 pub fn of(suite: &Suite) -> Vec<u8> {
     let mut bytes = vec![0; image::length(suite)];

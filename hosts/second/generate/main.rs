@@ -2,7 +2,6 @@
 
 mod bench_calls;
 mod images;
-mod random;
 mod script;
 mod speed;
 mod suites;
@@ -14,7 +13,7 @@ use std::fs;
 use std::io::{self, Write};
 use std::process::ExitCode;
 
-use random::Random;
+use second::random::Random;
 use second::{bench, calls};
 use tally::Counts;
 

@@ -3,8 +3,8 @@
 use second::line::{Program, LONGEST_LINE};
 use second::suite::Suite;
 
-use crate::random::Random;
 use crate::suites::{any_name, any_set, any_value, crowded, names, votes};
+use second::random::Random;
 
 /// A script of so many lines, given without their newlines.
 pub fn lines(random: &mut Random, count: usize) -> Vec<Vec<u8>> {

@@ -4,7 +4,7 @@
 use second::line::{Program, MOST_INPUT};
 use second::member::{Reading, LARGEST_NAME, LARGEST_VALUE};
 
-use crate::random::Random;
+use second::random::Random;
 
 const POOL: usize = 28;
 const PRESENT: usize = 20;

@@ -3,7 +3,7 @@
 use second::member::{Member, Reading, HIGH, LARGEST_NAME, LARGEST_VALUE, LARGEST_VERSION, PLACES};
 use second::suite::{Suite, LARGEST_VOTE, MOST_MEMBERS};
 
-use crate::random::Random;
+use second::random::Random;
 
 /// R, W and votes that creation accepts.
 pub fn votes(random: &mut Random) -> (u32, u32, Vec<u32>) {

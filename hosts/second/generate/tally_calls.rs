@@ -5,7 +5,6 @@ use second::bench;
 use second::calls::{Call, Outcome};
 use second::image;
 use second::member::HIGH;
-use second::refusal::Refusal;
 
 use crate::tally::{ends, Counts, Wanted};
 
@@ -68,7 +67,7 @@ pub fn check_buffers(outcome: &Outcome) {
         untouched(&answer[bench::ANSWER..]),
         "bytes after the answer stay"
     );
-    let length = image_length(image_out);
+    let length = image::length_in_front(image_out).expect("image out starts with an image");
     assert!(
         image::read(&image_out[..length]).is_ok(),
         "image out starts with an image"
@@ -77,20 +76,6 @@ pub fn check_buffers(outcome: &Outcome) {
         untouched(&image_out[length..]),
         "bytes after the image stay"
     );
-}
-
-/// The least length at which the reader no longer wants more.
-fn image_length(bytes: &[u8]) -> usize {
-    let (mut short, mut enough) = (0, bytes.len());
-    while short < enough {
-        let middle = (short + enough) / 2;
-        if image::read(&bytes[..middle]) == Err(Refusal::ImageShort) {
-            short = middle + 1;
-        } else {
-            enough = middle;
-        }
-    }
-    enough
 }
 
 fn kind(op: u32, result: u32, answer: &[u8]) -> String {

@@ -6,9 +6,9 @@ use second::line::Program;
 use second::member::{Reading, HIGH, LOW};
 use second::sound;
 
-use crate::random::Random;
 use crate::script;
 use crate::tally::{ends, Counts, Wanted};
+use second::random::Random;
 
 // Refusal 12 cannot be seen on the line: a command raises the highest version by at
 // most 1, and the bytes that are read hold fewer than 1,400,000 that do.

@@ -5,8 +5,8 @@ use second::bench::{self, Asked as Numbers};
 use crate::bench_calls::Source;
 use crate::images;
 use crate::plain::{self, Asked};
-use crate::random::Random;
 use crate::script;
+use second::random::Random;
 
 const FILL: u8 = 0xa5;
 

@@ -8,8 +8,8 @@ use second::refusal::Refusal;
 use second::sound;
 use second::suite::Suite;
 
-use crate::random::Random;
 use crate::suites::{good_set, names, votes};
+use second::random::Random;
 
 type Directory = BTreeMap<u32, u16>;
 

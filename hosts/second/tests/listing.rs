@@ -94,8 +94,7 @@ fn through_the_bench() {
         assert_eq!(outcome.answer, bytes);
         if outcome.result == 0 {
             let out = &outcome.image_out;
-            let length = (1..).find(|&length| image::read(&out[..length]).is_ok());
-            image = out[..length.unwrap()].to_vec();
+            image = out[..image::length_in_front(out).unwrap()].to_vec();
         }
         assert_eq!(printed.next(), Some(&image_line(&image)[..]));
     }

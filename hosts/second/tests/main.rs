@@ -5,8 +5,6 @@
 mod bench_calls;
 #[path = "../generate/images.rs"]
 mod images;
-#[path = "../generate/random.rs"]
-mod random;
 #[path = "../generate/script.rs"]
 mod script;
 #[path = "../generate/suites.rs"]
