@@ -32,6 +32,16 @@ pub fn step(asked: Asked, image_in: &[u8], image_out: &mut [u8], answer: &mut [u
 }
 
 impl Asked {
+    pub const fn new(op: u32, read_set: u32, write_set: u32, name: u32, value: u32) -> Asked {
+        Asked {
+            op,
+            read_set,
+            write_set,
+            name,
+            value,
+        }
+    }
+
     fn carry_out(
         &self,
         image_in: &[u8],

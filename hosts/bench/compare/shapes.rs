@@ -65,13 +65,7 @@ pub fn every() -> Comparison {
 }
 
 fn lengths(comparison: &mut Comparison, suite: &Suite, op: u32, name: u32) {
-    let asked = Asked {
-        op,
-        read_set: suite.all(),
-        write_set: suite.all(),
-        name,
-        value: 7,
-    };
+    let asked = Asked::new(op, suite.all(), suite.all(), name, 7);
     let mut after = suite.clone();
     if op <= NEIGHBOURS {
         // A refusal leaves the suite as it was, and then no length of image out matters.
@@ -90,8 +84,8 @@ fn lengths(comparison: &mut Comparison, suite: &Suite, op: u32, name: u32) {
     }
 }
 
-/// Every operation, and one that is none, on an image: all of the members that the suite had
-/// before it was damaged, and the names given. Where there is but one turn, one operation alone.
+/// Every operation, and a number that is none, or `only` the one given, on an image: both sets
+/// and the names are given too.
 pub fn operations(
     comparison: &mut Comparison,
     image: &[u8],
@@ -105,13 +99,7 @@ pub fn operations(
         }
         for &name in names {
             comparison.compare(&Call {
-                asked: Asked {
-                    op,
-                    read_set: sets,
-                    write_set: sets,
-                    name,
-                    value: 65_535,
-                },
+                asked: Asked::new(op, sets, sets, name, 65_535),
                 image_in: image.to_vec(),
                 image_out: image::LONGEST + 3,
                 answer: bench::ANSWER,

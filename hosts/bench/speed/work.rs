@@ -44,13 +44,9 @@ fn works(image: &'static str, suite: &Suite, sets: (u32, u32), absent: &[u32]) -
             UPDATE | REMOVE => &present,
             _ => &both,
         };
-        let asked = names.iter().map(|&name| Asked {
-            op,
-            read_set: sets.0,
-            write_set: sets.1,
-            name,
-            value: 7,
-        });
+        let asked = names
+            .iter()
+            .map(|&name| Asked::new(op, sets.0, sets.1, name, 7));
         Work {
             image,
             operation,

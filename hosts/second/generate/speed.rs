@@ -20,15 +20,7 @@ pub fn text(random: &mut Random) -> Vec<u8> {
         let write_set = random.pick(&[3, 5, 6, 6, 5, 3, 7]);
         let name = random.pick(&names);
         let value = random.between(0, LARGEST_VALUE);
-        let held = matches!(
-            program
-                .suite()
-                .expect("accepted above")
-                .lookup(7, name)
-                .expect("a good set")
-                .reading,
-            Reading::Entry { .. }
-        );
+        let held = holds(&program, name);
         let line = match random.below(10) {
             0..=4 => format!("look {read_set} {name}"),
             5 => format!("near {read_set} {name}"),
@@ -49,4 +41,10 @@ pub fn text(random: &mut Random) -> Vec<u8> {
         text.extend_from_slice(line.as_bytes());
         text.push(b'\n');
     }
+}
+
+fn holds(program: &Program, name: u32) -> bool {
+    let suite = program.suite().expect("accepted before");
+    let found = suite.lookup(7, name).expect("a good set");
+    matches!(found.reading, Reading::Entry { .. })
 }

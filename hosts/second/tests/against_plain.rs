@@ -10,19 +10,8 @@ use second::random::Random;
 
 const FILL: u8 = 0xa5;
 
-fn plain_step(
-    numbers: Numbers,
-    image_in: &[u8],
-    image_out: &mut [u8],
-    answer: &mut [u8],
-) -> Result<(), u32> {
-    if numbers.op > 4 {
-        return Err(14);
-    }
-    if answer.len() < 16 {
-        return Err(19);
-    }
-    let mut suite = plain::image::read(image_in)?;
+/// The four numbers of an operation's answer.
+fn settled(numbers: Numbers, suite: &mut plain::Suite) -> Result<[u64; 4], u32> {
     let lookup = Asked {
         read_set: u64::from(numbers.read_set),
         write_set: None,
@@ -37,22 +26,35 @@ fn plain_step(
         value: Some(u64::from(numbers.value)),
         ..remove
     };
-    let settled = match numbers.op {
-        0 => suite.lookup(lookup)?,
-        1 => suite.put(put, false)?,
-        2 => suite.put(put, true)?,
-        3 => suite.remove(remove)?,
-        _ => suite.neighbours(lookup)?,
-    };
+    match numbers.op {
+        0 => suite.lookup(lookup),
+        1 => suite.put(put, false),
+        2 => suite.put(put, true),
+        3 => suite.remove(remove),
+        _ => suite.neighbours(lookup),
+    }
+}
+
+fn plain_step(
+    numbers: Numbers,
+    image_in: &[u8],
+    image_out: &mut [u8],
+    answer: &mut [u8],
+) -> Result<(), u32> {
+    if numbers.op > 4 {
+        return Err(14);
+    }
+    if answer.len() < 16 {
+        return Err(19);
+    }
+    let mut suite = plain::image::read(image_in)?;
+    let settled = settled(numbers, &mut suite)?;
     let image = plain::image::write(&suite);
     if image_out.len() < image.len() {
         return Err(19);
     }
     image_out[..image.len()].copy_from_slice(&image);
-    let bytes: Vec<u8> = settled
-        .iter()
-        .flat_map(|number| (*number as u32).to_be_bytes())
-        .collect();
+    let bytes = settled.map(|number| (number as u32).to_be_bytes()).concat();
     answer[..16].copy_from_slice(&bytes);
     Ok(())
 }

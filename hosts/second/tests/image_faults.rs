@@ -186,17 +186,9 @@ fn the_bench_s_buffers_and_their_order() {
     assert_eq!(good.len(), fresh.div_ceil(8));
     let after = (fresh + 84).div_ceil(8);
     let step = |op, read_set, image: &[u8], image_out: usize, answer: usize| {
-        let asked = Asked {
-            op,
-            read_set,
-            write_set: 1,
-            name: 5,
-            value: 6,
-        };
-        let image_in = image.to_vec();
         let call = Call {
-            asked,
-            image_in,
+            asked: Asked::new(op, read_set, 1, 5, 6),
+            image_in: image.to_vec(),
             image_out,
             answer,
         };

@@ -52,33 +52,28 @@ fn image_line(image: &[u8]) -> String {
     format!("image {}", hex.collect::<String>())
 }
 
+/// The listing's calls; what they give; the numbers of their answers.
+const CALLS: [(Asked, u32, [u32; 4]); 12] = [
+    (Asked::new(INSERT, 3, 3, 20, 7), 0, [1, 4, 0, 0]),
+    (Asked::new(LOOKUP, 6, 99, 20, 99_999), 0, [1, 1, 7, 2]),
+    (Asked::new(INSERT, 6, 6, 10, 3), 0, [1, 4, 0, 0]),
+    (Asked::new(INSERT, 5, 5, 30, 9), 0, [1, 4, 0, 0]),
+    (Asked::new(REMOVE, 5, 6, 20, 99_999), 0, [2, 6, 0, 0]),
+    (Asked::new(LOOKUP, 3, 0, 20, 0), 0, [0, 2, 0, 2]),
+    (Asked::new(NEIGHBOURS, 3, 99, 15, 99_999), 0, [11, 31, 4, 0]),
+    (Asked::new(LOOKUP, 3, 0, 10, 0), 0, [1, 1, 3, 2]),
+    (Asked::new(INSERT, 3, 3, 20, 8), 0, [3, 4, 0, 0]),
+    (Asked::new(LOOKUP, 5, 0, 20, 0), 0, [1, 3, 8, 2]),
+    (Asked::new(REMOVE, 5, 1, 20, 0), 9, [0; 4]),
+    (Asked::new(INSERT, 3, 3, 20, 8), 10, [0; 4]),
+];
+
 #[test]
 fn through_the_bench() {
     let mut image = images::of(&Suite::create(2, 2, &[1, 1, 1]).unwrap());
     let mut printed = EXAMPLE.lines().filter(|line| line.starts_with("image "));
     assert_eq!(printed.next(), Some(&image_line(&image)[..]));
-    let calls = [
-        (INSERT, 3, 3, 20, 7, 0, [1, 4, 0, 0]),
-        (LOOKUP, 6, 99, 20, 99_999, 0, [1, 1, 7, 2]),
-        (INSERT, 6, 6, 10, 3, 0, [1, 4, 0, 0]),
-        (INSERT, 5, 5, 30, 9, 0, [1, 4, 0, 0]),
-        (REMOVE, 5, 6, 20, 99_999, 0, [2, 6, 0, 0]),
-        (LOOKUP, 3, 0, 20, 0, 0, [0, 2, 0, 2]),
-        (NEIGHBOURS, 3, 99, 15, 99_999, 0, [11, 31, 4, 0]),
-        (LOOKUP, 3, 0, 10, 0, 0, [1, 1, 3, 2]),
-        (INSERT, 3, 3, 20, 8, 0, [3, 4, 0, 0]),
-        (LOOKUP, 5, 0, 20, 0, 0, [1, 3, 8, 2]),
-        (REMOVE, 5, 1, 20, 0, 9, [0; 4]),
-        (INSERT, 3, 3, 20, 8, 10, [0; 4]),
-    ];
-    for (op, read_set, write_set, name, value, expected, numbers) in calls {
-        let asked = Asked {
-            op,
-            read_set,
-            write_set,
-            name,
-            value,
-        };
+    for (asked, expected, numbers) in CALLS {
         let call = Call {
             asked,
             image_in: image.clone(),
@@ -87,11 +82,7 @@ fn through_the_bench() {
         };
         let outcome = call.outcome(bench::step, 0);
         assert_eq!(outcome.result, expected);
-        let bytes: Vec<u8> = numbers
-            .iter()
-            .flat_map(|number: &u32| number.to_be_bytes())
-            .collect();
-        assert_eq!(outcome.answer, bytes);
+        assert_eq!(outcome.answer, numbers.map(u32::to_be_bytes).concat());
         if outcome.result == 0 {
             let out = &outcome.image_out;
             image = out[..image::length_in_front(out).unwrap()].to_vec();

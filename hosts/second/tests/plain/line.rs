@@ -15,6 +15,18 @@ pub fn run(input: &[u8]) -> String {
     answers.map(|answer| answer + "\n").collect()
 }
 
+fn near([p, s, requests, _]: [u64; 4]) -> String {
+    let below = match p {
+        0 => "LOW".into(),
+        p => (p - 1).to_string(),
+    };
+    let above = match s {
+        1_048_577 => "HIGH".into(),
+        s => (s - 1).to_string(),
+    };
+    format!("{below} {above} {requests}")
+}
+
 fn step(suite: &mut Option<Suite>, line: &[u8]) -> Result<String, u32> {
     let text = std::str::from_utf8(line).map_err(|_| 14u32)?;
     let words: Vec<&str> = text.split(' ').collect();
@@ -38,18 +50,7 @@ fn step(suite: &mut Option<Suite>, line: &[u8]) -> Result<String, u32> {
             }
         }
         (Some(suite), ["near", sets @ .., name]) if sets.len() == 1 => {
-            let [p, s, requests, _] = suite.neighbours(asked(suite, sets, name, None)?)?;
-            let below = if p == 0 {
-                "LOW".into()
-            } else {
-                (p - 1).to_string()
-            };
-            let above = if s == 1_048_577 {
-                "HIGH".into()
-            } else {
-                (s - 1).to_string()
-            };
-            Ok(format!("{below} {above} {requests}"))
+            Ok(near(suite.neighbours(asked(suite, sets, name, None)?)?))
         }
         (Some(suite), ["del", sets @ .., name]) if sets.len() == 2 => {
             let [version, requests, ..] = suite.remove(asked(suite, sets, name, None)?)?;
