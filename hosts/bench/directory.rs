@@ -1,6 +1,7 @@
 //! The bench call of `libbench.a` for Rust hosts. Nothing checks the declaration below
 //! against the library: it says what `hosts/c/directory.h` says.
 
+pub mod fenced;
 pub mod guarded;
 
 use second::bench::Asked;

@@ -2,7 +2,7 @@
 
 use std::process;
 
-use directory::guarded;
+use directory::{fenced, guarded};
 use second::bench;
 use second::calls::{Call, Outcome};
 
@@ -16,15 +16,18 @@ pub struct Comparison {
 }
 
 impl Comparison {
-    /// Hands the call to both; says how they differ and ends where they do.
+    /// Hands the call to both, to ours between guard bytes and in front of closed pages; says
+    /// how they differ and ends where they do.
     pub fn compare(&mut self, call: &Call) {
-        let ours = call.outcome(guarded::step, FILL);
         let second = call.outcome(bench::step, FILL);
-        if ours != second {
-            differ(call, &ours, &second);
+        for step in [guarded::step, fenced::step] {
+            let ours = call.outcome(step, FILL);
+            if ours != second {
+                differ(call, &ours, &second);
+            }
         }
-        check_buffers(&ours);
-        note(&mut self.counts, call, &ours);
+        check_buffers(&second);
+        note(&mut self.counts, call, &second);
         self.calls += 1;
     }
 
