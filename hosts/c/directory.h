@@ -50,9 +50,9 @@ enum {
     DIRECTORY_LOW = 0,              /* a predecessor that is LOW, as neighbours answers it */
     DIRECTORY_HIGH = 1048577,       /* a successor that is HIGH */
 
-    /* Bytes of stack that a call needs, the caller's frame and what a signal handler takes not counted. Measured:
-     * hosts/c/run paints a thread's stack, makes every kind of call on it and looks how far down it was changed. It
-     * fails where that comes within 4,096 bytes of this number, so the number has at least that much to spare. */
+    /* Bytes of stack that a call needs, the caller's frame and what a signal handler takes not counted. Measured, not
+     * proved: hosts/c/run paints a thread's stack, makes every kind of call on it and looks how far down it was changed.
+     * That was 40,360 bytes when this was written. It fails where it finds less than 4,096 bytes to spare. */
     DIRECTORY_STACK = 65536
 };
 
