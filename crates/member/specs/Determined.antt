@@ -6,7 +6,7 @@ use Rattle.member.specs.Tile.{freshTile, emptyTile, entries, readingOf, 
 use Rattle.member.specs.Search.{endOf}
 use Rattle.member.specs.Rounds.{aroundOf, belowOf, aboveOf, offerBelowOf, offerAboveOf}
 use Rattle.member.specs.Change.{writeOf, dropOf, coalesceOf, appendOf, fitsWrite, fitsCoalesce}
-use Rattle.member.specs.Sound.{inRange, soundMember}
+use Rattle.member.specs.Sound.{inRange, isNone, soundMember}
 use Rattle.member.specs.declared.Row.{Row}
 use Rattle.member.specs.declared.Bound.{Bound}
 use Rattle.member.specs.declared.Member.{Member}
@@ -29,6 +29,9 @@ end-of-determined name = same (endOf name)
 
 pub in-range-determined : (row : Row) → Determines (λ r. r ≡ inRange row)
 in-range-determined row = same (inRange row)
+
+pub is-none-determined : (row : Row) → Determines (λ r. r ≡ isNone row)
+is-none-determined row = same (isNone row)
 
 module _ (m : Member) where
   pub used-determined : Determines (λ r. (r ≡ length (entries m)) × (r ≤ 32))

@@ -8,6 +8,9 @@ mod rounds;
 mod search;
 mod sound;
 
+pub use search::end_of;
+pub use sound::in_range;
+pub use sound::is_none;
 ghost use mathlib.Core.Path.{_≡_};
 ghost use Rattle.member.specs.Tile.{emptyTile, freshTile};
 

@@ -28,7 +28,7 @@ pub fn in_range(row: Row) -> bool
 }
 
 // Does the place hold zero?
-fn is_none(row: Row) -> bool
+pub fn is_none(row: Row) -> bool
     ensures { λ r. ⌜ r ≡ isNone row ⌝ }
 {
     if row.name != 0 {

@@ -10,8 +10,8 @@ use lib.ListN.{length, drop, getD, length-take, length-map, drop-of-length-le}
 use lib.Seq.{getD-take, drop-cons}
 use lib.Pow.{shl-exact}
 use Rattle.suite.specs.Sets.{chosen, total, votesOf}
-use Rattle.suite.specs.Suite.{ballots}
-use Rattle.suite.specs.declared.Suite.{Suite}
+use Rattle.suite.specs.Suite.{ballotsIn}
+use Rattle.suite.specs.declared.Frame.{Frame}
 
 -- an array of structs has its length by its elements' bits
 pub length-of-map : {A B : Type 0} (f : A → B) (l : List A) (n : ℕ) → length (map f l) ≡ n → length l ≡ n
@@ -35,23 +35,23 @@ unfolding chosen
 chosen-past l i set h = rw (drop-of-length-le l)
 
 -- a member's votes are what stands in its place
-pub ballot-at : (s : Suite) (i : ℕ) → i < length (ballots s) → getD (ballots s) i 0 ≡ getD (s .votes) i 0
+pub ballot-at : (s : Frame) (i : ℕ) → i < length (ballotsIn s) → getD (ballotsIn s) i 0 ≡ getD (s .votes) i 0
 ballot-at s i h = let k : i < s .count = omega (arith, length-take (s .count) (s .votes)) in rw getD-take
 
-pub votes-named : (s : Suite) (i set : ℕ) → i < length (ballots s) → set % 2 ≡ 1
-    → votesOf (drop i (ballots s)) set ≡ getD (s .votes) i 0 + votesOf (drop (i + 1) (ballots s)) (set / 2)
+pub votes-named : (s : Frame) (i set : ℕ) → i < length (ballotsIn s) → set % 2 ≡ 1
+    → votesOf (drop i (ballotsIn s)) set ≡ getD (s .votes) i 0 + votesOf (drop (i + 1) (ballotsIn s)) (set / 2)
 unfolding total
 votes-named s i set h e =
-    ap total (chosen-named (ballots s) i 0 set h e)
-    ∙ ap (λ (v : ℕ). v + votesOf (drop (i + 1) (ballots s)) (set / 2)) (ballot-at s i h)
+    ap total (chosen-named (ballotsIn s) i 0 set h e)
+    ∙ ap (λ (v : ℕ). v + votesOf (drop (i + 1) (ballotsIn s)) (set / 2)) (ballot-at s i h)
 
-pub votes-passed : (s : Suite) (i set : ℕ) → i < length (ballots s) → (set % 2 ≡ 1 → ⊥)
-    → votesOf (drop i (ballots s)) set ≡ votesOf (drop (i + 1) (ballots s)) (set / 2)
-votes-passed s i set h e = ap total (chosen-passed (ballots s) i 0 set h e)
+pub votes-passed : (s : Frame) (i set : ℕ) → i < length (ballotsIn s) → (set % 2 ≡ 1 → ⊥)
+    → votesOf (drop i (ballotsIn s)) set ≡ votesOf (drop (i + 1) (ballotsIn s)) (set / 2)
+votes-passed s i set h e = ap total (chosen-passed (ballotsIn s) i 0 set h e)
 
-pub votes-past : (s : Suite) (i set : ℕ) → length (ballots s) ≤ i → votesOf (drop i (ballots s)) set ≡ 0
+pub votes-past : (s : Frame) (i set : ℕ) → length (ballotsIn s) ≤ i → votesOf (drop i (ballotsIn s)) set ≡ 0
 unfolding total
-votes-past s i set h = ap total (chosen-past (ballots s) i set h)
+votes-past s i set h = ap total (chosen-past (ballotsIn s) i set h)
 
 -- the digit of place n, for which there is room
 pub one-shifted : (n : ℕ) → n ≤ 8 → (1 * 2 ^ n) % 2 ^ 32 ≡ 2 ^ n

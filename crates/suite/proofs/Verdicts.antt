@@ -6,13 +6,13 @@ use Prim.Native.Nat.{ℕ, _+_, _-_, _^_, _≤_, _<_}
 use native.Mathlib.Omega.{arith}
 use borrow.Author.Tests.{lt-ltb, le-ltb, le-leb, lt-leb}
 use lib.Dec.{ltb}
-use lib.ListN.{length, length-take}
+use lib.ListN.{length}
 use Rattle.member.specs.Limits.{largestName, largestValue}
 use Rattle.suite.specs.Sets.{exists, total, votesOf}
 use Rattle.suite.specs.SetLaws.{chosen-everyone}
-use Rattle.suite.specs.Suite.{tiles, ballots, quorum}
+use Rattle.suite.specs.Suite.{ballotsIn, quorum}
 use Rattle.suite.specs.Calls.{judged, judgedVotes}
-use Rattle.suite.specs.declared.Suite.{Suite}
+use Rattle.suite.specs.declared.Frame.{Frame}
 
 module _ (votes : List ℕ) (r w rs ws : ℕ) where
   pub read-short : votesOf votes rs < r → 8 ≡ judgedVotes votes r w rs ws
@@ -68,8 +68,5 @@ module _ (r w v : ℕ) where
   in-range a b d h = rw (le-leb 1 r a, le-leb r v b, le-leb 1 w d, le-leb w v h)
 
 -- the votes of the set of all members are V
-pub total-everyone : (s : Suite) (set : ℕ) → set ≡ 2 ^ length (tiles s) - 1 → length (s .members) ≡ 8 → length (s .votes) ≡ 8
-    → votesOf (ballots s) set ≡ total (ballots s)
-total-everyone s set p m v =
-    let e : length (tiles s) ≡ length (ballots s) = simp length-take (omega arith) in
-    ap (votesOf (ballots s)) (p ∙ ap (λ (k : ℕ). 2 ^ k - 1) e) ∙ ap total (chosen-everyone (ballots s))
+pub total-everyone : (f : Frame) (set : ℕ) → set ≡ 2 ^ length (ballotsIn f) - 1 → votesOf (ballotsIn f) set ≡ total (ballotsIn f)
+total-everyone f set p = ap (votesOf (ballotsIn f)) p ∙ ap total (chosen-everyone (ballotsIn f))

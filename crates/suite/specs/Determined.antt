@@ -5,12 +5,17 @@ use Prim.Native.Nat.{ℕ, _-_, _^_, _≤_}
 use lib.ListN.{length, getD}
 use Rattle.member.specs.declared.Reading.{Reading}
 use Rattle.member.specs.declared.Reading.the-variants.{Entry, Gap}
-use Rattle.suite.specs.Suite.{tiles, ballots, soundSuite}
+use Rattle.member.specs.declared.Around.{Around}
+use Rattle.member.specs.declared.Offer.{Offer}
+use Rattle.suite.specs.Suite.{tiles, ballots, frameOf, ballotsIn, soundFrame, soundSuite}
+use Rattle.suite.specs.Rows.{rowReading, aroundRow, offersRow}
 use Rattle.suite.specs.Outcome.{answered, numberOf, readingValues, lookedOf, nearOf, changeOf, creationOf, judgedOf}
 use Rattle.suite.specs.OutcomeLaws.{refused-is, not-both}
 use Rattle.suite.specs.Calls.{Call, lookup, neighbours, insert, update, remove, Result, resultOf}
+use Rattle.suite.specs.Calls as calls
 use Rattle.suite.specs.Create.{createOf, createdOf}
 use Rattle.suite.specs.declared.Suite.{Suite}
+use Rattle.suite.specs.declared.Frame.{Frame}
 use Rattle.suite.specs.declared.Refusal.{Refusal}
 use Rattle.suite.specs.declared.Refusal.the-variants.{Unsound, Members, Vote, Quorum, Name, Value, NoMember, ReadVotes, WriteVotes, Present, Absent, Version, Full, NotUnderstood, Short, Edition, Field, Padding, Buffer}
 use Rattle.suite.specs.declared.Looked.the-variants as looked
@@ -159,3 +164,30 @@ everyone-determined s = same (2 ^ length (tiles s) - 1)
 
 pub number-determined : (k : Refusal) → Determines (λ r. r ≡ numberOf k)
 number-determined k = same (numberOf k)
+
+-- what a suite's frame says
+module _ (f : Frame) where
+  pub frame-size-determined : Determines (λ r. (r ≡ length (ballotsIn f)) × (r ≤ 8))
+  frame-size-determined r r′ p q = same (length (ballotsIn f)) r r′ (p .0) (q .0)
+
+  pub frame-everyone-determined : Determines (λ r. r ≡ 2 ^ length (ballotsIn f) - 1)
+  frame-everyone-determined = same (2 ^ length (ballotsIn f) - 1)
+
+  pub frame-sound-determined : Determines (λ r. r ≡ soundFrame f)
+  frame-sound-determined = same (soundFrame f)
+
+  pub judge-determined : (name value read write needed : ℕ) → Determines (λ r. judgedOf r ≡ calls.judged (ballotsIn f) (f .read) needed name value read write)
+  judge-determined name value read write needed = told judgedOf judged-tells (calls.judged (ballotsIn f) (f .read) needed name value read write)
+
+pub frame-determined : (s : Suite) → Determines (λ r. r ≡ frameOf s)
+frame-determined s = same (frameOf s)
+
+-- the rows of a round's table
+pub row-reading-determined : (row : List ℕ) → Determines (λ r. r ≡ rowReading row)
+row-reading-determined row = same (rowReading row)
+
+pub around-row-determined : (a : Around) → Determines (λ r. r ≡ aroundRow a)
+around-row-determined a = same (aroundRow a)
+
+pub offers-row-determined : (below above : Offer) → Determines (λ r. r ≡ offersRow below above)
+offers-row-determined below above = same (offersRow below above)

@@ -1,13 +1,13 @@
 -- The parts of a suite's soundness.
-use mathlib.Core.Path.{_≡_}
-use mathlib.Core.Bool.{true, _&&_, and-eq-true-iff}
+use mathlib.Core.Path.{_≡_, refl}
+use mathlib.Core.Bool.{Bool, true, false, _&&_, and-eq-true-iff}
 use Prim.Native.Nat.{ℕ, _+_, _≤_, _<_}
 use lib.ListN.{drop}
 use lib.Dec.{leb, ltb}
 use borrow.Author.Tests.{leb-true, ltb-true, le-leb}
 use Rattle.member.specs.Sound.{soundMember}
 use Rattle.suite.specs.Sets.{total, all}
-use Rattle.suite.specs.Suite.{tiles, ballots, smallVote, noVote, quorum, isFresh, soundSuite}
+use Rattle.suite.specs.Suite.{tiles, ballots, smallVote, noVote, quorum, isFresh, frameOf, soundFrame, soundSuite}
 use Rattle.suite.specs.declared.Suite.{Suite}
 
 pub record SuiteParts (s : Suite) : Type 0 where
@@ -84,3 +84,16 @@ quorum-parts r w v h =
       write-most = leb-true w v (h₄ .0);
       meets = ltb-true v (r + w) (h₄ .1);
     }
+
+-- the frame and the members, apart
+pub suite-apart : (s : Suite) → soundSuite s ≡ soundFrame (frameOf s) && (all soundMember (tiles s) && all isFresh (drop (s .count) (s .members)))
+unfolding soundSuite soundFrame
+suite-apart s =
+    regrouped (leb 1 (s .count)) (leb (s .count) 8) (all smallVote (ballots s) && all noVote (drop (s .count) (s .votes)))
+    (quorum (s .read) (s .write) (total (ballots s))) (all soundMember (tiles s) && all isFresh (drop (s .count) (s .members)))
+  where
+    regrouped : (a b c d e : Bool) → (a && (b && (c && (d && e)))) ≡ ((a && (b && (c && d))) && e)
+    regrouped false b c d e = refl
+    regrouped true false c d e = refl
+    regrouped true true false d e = refl
+    regrouped true true true d e = refl

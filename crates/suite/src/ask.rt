@@ -3,6 +3,7 @@ use crate::Effect;
 use crate::Question;
 use crate::Suite;
 use crate::table::around_row;
+use crate::table::fit_row;
 use crate::table::offers_row;
 use crate::table::reading_row;
 use member::Member;
@@ -10,7 +11,7 @@ ghost use mathlib.Core.Path.{_≡_};
 ghost use Rattle.suite.specs.Sets.{changed};
 ghost use Rattle.suite.specs.Suite.{tiles, withTiles};
 ghost use Rattle.suite.specs.Calls.{answerTo, effectOf};
-ghost use Rattle.suite.specs.Rows.{rowOf, fitRow, tableOf};
+ghost use Rattle.suite.specs.Rows.{rowOf, tableOf};
 
 // One member's answer to a question, as a row of the table.
 fn answer(m: Member, question: Question) -> [u32; 8]
@@ -25,16 +26,6 @@ fn answer(m: Member, question: Question) -> [u32; 8]
         ),
         Question::FitsWrite { name } => fit_row(m.fits_write(name)),
         Question::FitsCoalesce { below, above } => fit_row(m.fits_coalesce(below, above)),
-    }
-}
-
-fn fit_row(fits: bool) -> [u32; 8]
-    ensures { λ r. ⌜ r ≡ fitRow fits ⌝ }
-{
-    if fits {
-        [1, 0, 0, 0, 0, 0, 0, 0]
-    } else {
-        [0, 0, 0, 0, 0, 0, 0, 0]
     }
 }
 

@@ -2,19 +2,21 @@
 //
 // A suite uses a member only through what it promises: it never looks into rows.
 mod ask;
+mod ballot;
 mod calls;
 mod create;
 mod grant;
 mod judge;
 mod rounds;
 mod sound;
-mod table;
+pub mod table;
 mod unchecked;
 
 use member::Bound;
 use member::Member;
 use member::Reading;
 use member::Side;
+pub use rounds::Survey;
 ghost use mathlib.Core.Path.{_≡_};
 ghost use Rattle.suite.specs.Outcome.{numberOf};
 
@@ -140,6 +142,14 @@ pub enum Effect {
 // The members in the lowest `count` places with their votes; R votes make a read set, W votes a write set.
 pub struct Suite {
     pub members: [Member; 8],
+    pub votes: [u32; 8],
+    pub read: u32,
+    pub write: u32,
+    pub count: usize,
+}
+
+// A suite without its members: the votes, R, W and how many members there are.
+pub struct Frame {
     pub votes: [u32; 8],
     pub read: u32,
     pub write: u32,

@@ -1,12 +1,11 @@
 // Is a suite sound?
 use crate::Suite;
-use crate::judge::wide;
 use member::Member;
 ghost use mathlib.Core.Path.{_≡_};
 ghost use mathlib.Core.Bool.{_&&_};
 ghost use lib.ListN.{drop};
 ghost use Rattle.suite.specs.Sets.{all, total};
-ghost use Rattle.suite.specs.Suite.{tiles, ballots, quorum, isFresh, smallVote, noVote, soundSuite};
+ghost use Rattle.suite.specs.Suite.{tiles, ballots, quorum, isFresh, soundSuite};
 ghost use Rattle.member.specs.Sound.{soundMember};
 
 // An unused place holds zero, which is a fresh member.
@@ -26,38 +25,8 @@ impl Suite {
     pub(crate) fn quorum_holds(self) -> bool
         ensures { λ r. ⌜ r ≡ quorum (self .read) (self .write) (total (ballots self)) ⌝ }
     {
-        let all = self.votes_of(self.everyone());
-        let r = wide(self.read);
-        let w = wide(self.write);
-        if r == 0 {
-            return false;
-        }
-        if all < r {
-            return false;
-        }
-        if w == 0 {
-            return false;
-        }
-        if all < w {
-            return false;
-        }
-        all < r + w
-    }
-
-    // Is no vote over 15, and are the unused ones zero?
-    fn votes_are_sound(self) -> bool
-        ensures { λ r. ⌜ r ≡ all smallVote (ballots self) && all noVote (drop (self .count) (self .votes)) ⌝ }
-    {
-        let n = self.size();
-        let mut i = 0;
-        while i < Suite::LARGEST {
-            let most = if i < n { Suite::LARGEST_VOTE } else { 0 };
-            if most < self.votes[i] {
-                return false;
-            }
-            i += 1;
-        }
-        true
+        let frame = self.frame();
+        frame.quorum_holds()
     }
 
     // Is every member sound, and every unused one fresh?
@@ -81,16 +50,9 @@ impl Suite {
     pub fn is_sound(self) -> bool
         ensures { λ r. ⌜ r ≡ soundSuite self ⌝ }
     {
-        if self.count == 0 {
-            return false;
-        }
-        if Suite::LARGEST < self.count {
-            return false;
-        }
-        if self.votes_are_sound() {
-            if self.quorum_holds() {
-                return self.members_are_sound();
-            }
+        let frame = self.frame();
+        if frame.is_sound() {
+            return self.members_are_sound();
         }
         false
     }

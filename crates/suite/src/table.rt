@@ -15,7 +15,7 @@ ghost use Prim.Native.Nat.{_<_};
 ghost use Rattle.suite.specs.Best.{best};
 ghost use Rattle.suite.specs.Sets.{chosen, all};
 ghost use Rattle.suite.specs.Calls.{boundOr, rankBelow, rankAbove};
-ghost use Rattle.suite.specs.Rows.{noRow, readingRow, aroundRow, offersRow, rowReading, beatsAt, isSet, endWithin};
+ghost use Rattle.suite.specs.Rows.{noRow, fitRow, readingRow, aroundRow, offersRow, rowReading, beatsAt, isSet, endWithin};
 
 pub(crate) fn reading_row(reading: Reading) -> [u32; 8]
     ensures { λ r. ⌜ r ≡ readingRow reading ⌝ }
@@ -27,7 +27,7 @@ pub(crate) fn reading_row(reading: Reading) -> [u32; 8]
 }
 
 // The reading that a row begins with.
-pub(crate) fn row_reading(row: [u32; 8]) -> Reading
+pub fn row_reading(row: [u32; 8]) -> Reading
     ensures { λ r. ⌜ r ≡ rowReading row ⌝ }
 {
     if row[0] == 1 {
@@ -40,7 +40,7 @@ pub(crate) fn row_reading(row: [u32; 8]) -> Reading
     }
 }
 
-pub(crate) fn around_row(around: Around) -> [u32; 8]
+pub fn around_row(around: Around) -> [u32; 8]
     ensures { λ r. ⌜ r ≡ aroundRow around ⌝ }
 {
     let reading = around.reading;
@@ -57,6 +57,17 @@ pub(crate) fn around_row(around: Around) -> [u32; 8]
         above.end,
         0,
     ]
+}
+
+// Whether a written call fits a member.
+pub(crate) fn fit_row(fits: bool) -> [u32; 8]
+    ensures { λ r. ⌜ r ≡ fitRow fits ⌝ }
+{
+    if fits {
+        [1, 0, 0, 0, 0, 0, 0, 0]
+    } else {
+        [0, 0, 0, 0, 0, 0, 0, 0]
+    }
 }
 
 // What is offered, or zeros with which nothing is ranked.
@@ -93,7 +104,7 @@ fn rank_above(offer: Offer) -> u32
     }
 }
 
-pub(crate) fn offers_row(below: Offer, above: Offer) -> [u32; 8]
+pub fn offers_row(below: Offer, above: Offer) -> [u32; 8]
     requires { ⌜ (endWithin below) × (endWithin above) ⌝ }
     ensures { λ r. ⌜ r ≡ offersRow below above ⌝ }
 {

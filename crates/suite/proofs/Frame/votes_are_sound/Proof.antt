@@ -8,16 +8,16 @@ use native.Mathlib.Omega.{arith}
 use borrow.Author.Needs.{needs}
 use lib.ListN.{length-take, length, drop}
 use Rattle.suite.specs.Sets.{all}
-use Rattle.suite.specs.Suite.{ballots, smallVote, noVote}
+use Rattle.suite.specs.Suite.{ballotsIn, smallVote, noVote}
 use Rattle.suite.proofs.Used.{usedFrom, used-from, used-end}
 use Rattle.suite.proofs.Votes.{Most, votes-stop, votes-on}
-use Rattle.suite.proofs.Suite.votes_are_sound.Statement.{statement}
-use Rattle.suite.proofs.Suite.votes_are_sound.Tie as tie
+use Rattle.suite.proofs.Frame.votes_are_sound.Statement.{statement}
+use Rattle.suite.proofs.Frame.votes_are_sound.Tie as tie
 
 abbrev Inv-loop : tie.InvT-loop
 Inv-loop self n i₀ i =
-    (n ≡ length (ballots self)) × (i ≤ 8)
-    × (all smallVote (ballots self) && all noVote (drop (self .count) (self .votes)) ≡ usedFrom smallVote noVote (self .count - i) (drop i (self .votes)))
+    (n ≡ length (ballotsIn self)) × (i ≤ 8)
+    × (all smallVote (ballotsIn self) && all noVote (drop (self .count) (self .votes)) ≡ usedFrom smallVote noVote (self .count - i) (drop i (self .votes)))
 
 abbrev μ-loop : tie.MeasureT-loop
 μ-loop self n i₀ i = 8 - i
@@ -26,7 +26,7 @@ size-requires : tie.Need-size-requires Inv-loop μ-loop
 size-requires c κs = search needs
 
 loop-holds : tie.Need-loop-holds Inv-loop μ-loop
-loop-holds c = (c .size .ensures .1 .0, omega arith, rw sub-zero (used-from smallVote noVote (c .before .args .t1 .count) (c .before .args .t1 .votes)))
+loop-holds c = (c .size .ensures .0, omega arith, rw sub-zero (used-from smallVote noVote (c .before .args .t1 .count) (c .before .args .t1 .votes)))
 
 mul-if2 : tie.Need-mul-if2 Inv-loop μ-loop
 mul-if2 c = omega arith
