@@ -1,0 +1,9 @@
+pub mod AskPlaces
+pub mod AskChange
+pub mod AskTable
+pub mod SetFolds
+pub mod AskFolds
+pub mod RowFolds
+pub mod SoundPlaces
+pub mod Grants
+pub mod Callings

@@ -1,0 +1,10 @@
+pub mod AskOffers
+pub mod CellsRead
+pub mod ChangeRows
+pub mod ChangeSteps
+pub mod ChangeWrites
+pub mod RemovalSteps
+pub mod RowsAdded
+pub mod SoundSteps
+pub mod StoreSteps
+pub mod Stores
