@@ -1,7 +1,7 @@
 // Bit fields of an image, most significant bit first: reading one, and putting one.
 ghost use mathlib.Core.Path.{_≡_};
-ghost use Prim.Native.Nat.{_+_, _-_, _%_, _^_, _≤_, _<_};
-ghost use lib.ListN.{getD, set};
+ghost use Prim.Native.Nat.{_+_, _-_, _*_, _%_, _^_, _≤_, _<_};
+ghost use lib.ListN.{length, getD, set};
 ghost use Rattle.fields.specs.Field.{fitsIn, readOf, putOf};
 ghost use Rattle.fields.specs.Word.{wordAt, withWord, partOf, withPart};
 
@@ -81,11 +81,34 @@ fn word(bytes: &[u8], first: usize) -> u64
     requires { ⌜ first < 2 ^ 63 ⌝ }
     ensures { λ r. ⌜ r ≡ wordAt (now (bytes .entry)) first ⌝ }
 {
+    if first + 3 < bytes.len() {
+        whole_word(bytes, first)
+    } else {
+        last_word(bytes, first)
+    }
+}
+
+// Where all four are there, which is so but for the last bytes, no byte is tested by itself.
+fn whole_word(bytes: &[u8], first: usize) -> u64
+    requires { ⌜ first + 3 < length (now bytes) ⌝ }
+    ensures { λ r. ⌜ r ≡ wordAt (now (bytes .entry)) first ⌝ }
+{
+    let a = wide(bytes[first]);
+    let b = wide(bytes[first + 1]);
+    let c = wide(bytes[first + 2]);
+    let d = wide(bytes[first + 3]);
+    joined(a, b, c, d)
+}
+
+fn last_word(bytes: &[u8], first: usize) -> u64
+    requires { ⌜ first < 2 ^ 63 ⌝ }
+    ensures { λ r. ⌜ r ≡ wordAt (now (bytes .entry)) first ⌝ }
+{
     let a = byte(bytes, first);
     let b = byte(bytes, first + 1);
     let c = byte(bytes, first + 2);
     let d = byte(bytes, first + 3);
-    ((a * 256 + b) * 256 + c) * 256 + d
+    joined(a, b, c, d)
 }
 
 fn byte(bytes: &[u8], i: usize) -> u64
@@ -95,13 +118,41 @@ fn byte(bytes: &[u8], i: usize) -> u64
 }
 
 fn wide(x: u8) -> u64
-    ensures { λ r. ⌜ r ≡ x ⌝ }
+    ensures { λ r. ⌜ (r ≡ x) × (r < 256) ⌝ }
 {
     x as u64
 }
 
+fn joined(a: u64, b: u64, c: u64, d: u64) -> u64
+    requires { ⌜ (a < 256) × ((b < 256) × ((c < 256) × (d < 256))) ⌝ }
+    ensures { λ r. ⌜ r ≡ ((a * 256 + b) * 256 + c) * 256 + d ⌝ }
+{
+    ((a * 256 + b) * 256 + c) * 256 + d
+}
+
 // Puts a word back where it was read; a byte past the end is dropped.
 fn put_word(bytes: &mut [u8], first: usize, word: u64)
+    requires { ⌜ first < 2 ^ 63 ⌝ }
+    ensures { λ _. ⌜ now (bytes .exit) ≡ withWord (now (bytes .entry)) first word ⌝ }
+{
+    if first + 3 < bytes.len() {
+        put_whole_word(bytes, first, word);
+    } else {
+        put_last_word(bytes, first, word);
+    }
+}
+
+fn put_whole_word(bytes: &mut [u8], first: usize, word: u64)
+    requires { ⌜ first + 3 < length (now bytes) ⌝ }
+    ensures { λ _. ⌜ now (bytes .exit) ≡ withWord (now (bytes .entry)) first word ⌝ }
+{
+    bytes[first] = (word / 16777216 % 256) as u8;
+    bytes[first + 1] = (word / 65536 % 256) as u8;
+    bytes[first + 2] = (word / 256 % 256) as u8;
+    bytes[first + 3] = (word % 256) as u8;
+}
+
+fn put_last_word(bytes: &mut [u8], first: usize, word: u64)
     requires { ⌜ first < 2 ^ 63 ⌝ }
     ensures { λ _. ⌜ now (bytes .exit) ≡ withWord (now (bytes .entry)) first word ⌝ }
 {

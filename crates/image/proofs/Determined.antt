@@ -1,20 +1,22 @@
--- The contracts of the public functions leave no choice: any two outcomes that a contract allows are equal, answers and lent
--- bytes alike.
+-- The contracts of the public functions leave no choice: any two outcomes that a contract allows are equal, answers, lent
+-- bytes and lent tiles alike.
 -- Assumes nothing.
 use Prim.Native.Nat.{ℕ}
 use mathlib.Core.Path.{_≡_, refl, sym, ap, _∙_}
 use mathlib.Core.List.{List, [], _∷_}
 use Rattle.suite.specs.Outcome.{numberOf}
 use Rattle.suite.specs.OutcomeLaws.{refused-is, not-both}
-use Rattle.suite.specs.Calls.{Result}
-use Rattle.suite.specs.Determined.{Determines, Tells, number-tells}
-use Rattle.suite.specs.declared.Suite.{Suite}
+use Rattle.suite.specs.Determined.{Tells, number-tells}
+use Rattle.suite.specs.declared.Frame.{Frame}
+use Rattle.directory.specs.Lent.{suiteIn}
+use Rattle.directory.specs.Determined.{Tiles, one-suite}
 use Rattle.image.specs.Layout.{imageOf}
-use Rattle.image.specs.Reader.{loadingOf, loadedOf, readImage}
+use Rattle.image.specs.Reader.{loadingOf, Load, noFrame, loadOf, loadedIn}
 use Rattle.image.specs.Writer.{Lent, writtenOf, lentOf, fillOf, writeOf}
 use Rattle.image.specs.declared.Written.{Written}
 use Rattle.image.specs.declared.Written.the-variants as written
 use Rattle.image.specs.declared.Loading.the-variants as loading
+use Rattle.image.specs.declared.Loaded.{Loaded}
 
 written-tells : Tells writtenOf
 written-tells (written.Done m) (written.Done n) e = cc
@@ -35,21 +37,27 @@ lent-determined o r r′ after after′ p q =
     let e : lentOf r after ≡ lentOf r′ after′ = p ∙ sym q in
     (written-tells r r′ (ap (λ (l : Lent). l .outcome) e), ap (λ (l : Lent). l .bytes) e)
 
-pub write-determined : (s : Suite) (out : List ℕ) (r r′ : Written) (after after′ : List ℕ)
-    → lentOf r after ≡ writeOf s out
-    → lentOf r′ after′ ≡ writeOf s out
+pub write-determined : (f : Frame) (tiles : List (List ℕ)) (out : List ℕ) (r r′ : Written) (after after′ : List ℕ)
+    → lentOf r after ≡ writeOf (suiteIn f tiles) out
+    → lentOf r′ after′ ≡ writeOf (suiteIn f tiles) out
     → (r ≡ r′) × (after ≡ after′)
-write-determined s out r r′ after after′ p q = lent-determined (writeOf s out) r r′ after after′ p q
+write-determined f tiles out r r′ after after′ p q = lent-determined (writeOf (suiteIn f tiles) out) r r′ after after′ p q
 
-pub write-unchecked-determined : (s : Suite) (out : List ℕ) (r r′ : Written) (after after′ : List ℕ)
-    → lentOf r after ≡ fillOf (imageOf s) out
-    → lentOf r′ after′ ≡ fillOf (imageOf s) out
+pub write-unchecked-determined : (f : Frame) (tiles : List (List ℕ)) (out : List ℕ) (r r′ : Written) (after after′ : List ℕ)
+    → lentOf r after ≡ fillOf (imageOf (suiteIn f tiles)) out
+    → lentOf r′ after′ ≡ fillOf (imageOf (suiteIn f tiles)) out
     → (r ≡ r′) × (after ≡ after′)
-write-unchecked-determined s out r r′ after after′ p q =
-    lent-determined (fillOf (imageOf s) out) r r′ after after′ p q
+write-unchecked-determined f tiles out r r′ after after′ p q =
+    lent-determined (fillOf (imageOf (suiteIn f tiles)) out) r r′ after after′ p q
 
-pub read-determined : (image : List ℕ) → Determines (λ r. loadedOf r ≡ readImage image)
-read-determined image r r′ p q =
-    let e : loadedOf r ≡ loadedOf r′ = p ∙ sym q in
-    let h = loading-tells (r .answer) (r′ .answer) (ap (λ (t : Result). t .outcome) e) in
-    λ j. record { answer = h j; suite = e j .suite }
+-- an answer, the frame and the lent tiles beside it
+pub read-determined : (image : List ℕ) (lent : List (List ℕ)) (r r′ : Loaded) (after after′ : List (List ℕ)) → Tiles after → Tiles after′
+    → loadedIn r after ≡ loadOf image lent
+    → loadedIn r′ after′ ≡ loadOf image lent
+    → (r ≡ r′) × (after ≡ after′)
+read-determined image lent r r′ after after′ h k p q =
+    let e : loadedIn r after ≡ loadedIn r′ after′ = p ∙ sym q in
+    let a = loading-tells (r .answer) (r′ .answer) (ap (λ (l : Load). l .outcome) e) in (
+      λ j. record { answer = a j; frame = e j .frame },
+      one-suite noFrame after after′ h k (λ j. record { members = e j .members; votes = noFrame .votes; read = 0; write = 0; count = 0 }),
+    )

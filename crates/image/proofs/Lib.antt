@@ -12,4 +12,6 @@ mod Writing
 mod Reading
 mod Rows
 mod Voting
+mod Tiles
+mod Loads
 pub mod Determined

@@ -1,14 +1,12 @@
 -- Loops that read one thing after another: what was read so far, and what is left to read.
 -- Assumes nothing.
-use Prim.Native.Nat.{ℕ, suc, _+_, _-_, _≤_, _<_}
+use Prim.Native.Nat.{ℕ, zero, suc, _+_, _-_, _≤_, _<_}
 use native.Mathlib.Omega.{arith}
-use native.Mathlib.Nat.{sub-zero}
+use native.Mathlib.Nat.{sub-zero, suc-sub-suc}
 use mathlib.Core.Path.{_≡_, refl, sym, ap, _∙_}
 use mathlib.Core.List.{List, [], _∷_, _++_, append-assoc, append-nil}
-use lib.ListN.{length, take, set, replicate, length-append}
-use lib.Seq.{set-at, take-at}
-use Rattle.member.specs.declared.Member.{Member}
-use Rattle.suite.specs.declared.Suite.{Suite}
+use lib.ListN.{length, take, drop, set, replicate, length-append}
+use lib.Seq.{set-at, take-at, drop-append-add}
 use Rattle.image.specs.Reader.{Taken, took, fault, then, several, each}
 
 -- what is read next goes behind what was read before
@@ -89,6 +87,12 @@ place-more n done d a h =
     ∙ ap (λ (k : ℕ). done ++ (a ∷ replicate (n - k) d)) (sym (length-append done (a ∷ [])))
     ∙ sym (append-assoc done (a ∷ []) (replicate (n - length (done ++ (a ∷ []))) d))
 
+-- what is left of n places that hold d
+pub drop-same : {A : Type 0} (d : A) (k n : ℕ) → drop k (replicate n d) ≡ replicate (n - k) d
+drop-same d zero n = ap (λ (i : ℕ). replicate i d) (sym (sub-zero n))
+drop-same d (suc k) zero = let e : 0 - suc k ≡ 0 = omega arith in rw e
+drop-same d (suc k) (suc n) = drop-same d k n ∙ ap (λ (i : ℕ). replicate i d) (sym (suc-sub-suc n k))
+
 -- what was read stands in the lowest of eight places, d in the others
 pub record PlacesSoFar {A : Type 0} (read : ℕ → Taken A) (d : A) (k at₀ : ℕ) (places : List A) (at i : ℕ) : Type 0 where
   pub done : List A
@@ -130,6 +134,14 @@ module _ {A : Type 0} (read : ℕ → Taken A) (d : A) (k at₀ : ℕ) (few : k 
         ∙ ap (λ (l : List A). l ++ replicate (8 - length l) d)
         (sym (ap (take k) (s .holds) ∙ take-at (s .done) (replicate (8 - length (s .done)) d) k e))
 
--- a suite with other places for its members
-abbrev pub withPlaces : Suite → List Member → Suite
-withPlaces s l = record { members = l; votes = s .votes; read = s .read; write = s .write; count = s .count }
+    -- no place past the first k was taken
+    pub places-free : drop k places ≡ replicate (8 - k) d
+    places-free =
+        let j = k - length (s .done) in
+        let e : k ≡ length (s .done) + j = omega (arith, s .so-far .many, s .so-far .few) in
+        let m : 8 - length (s .done) - j ≡ 8 - k = omega (arith, s .so-far .many, s .so-far .few) in
+        ap (drop k) (s .holds)
+        ∙ ap (λ (h : ℕ). drop h (s .done ++ replicate (8 - length (s .done)) d)) e
+        ∙ drop-append-add (s .done) (replicate (8 - length (s .done)) d) j
+        ∙ drop-same d j (8 - length (s .done))
+        ∙ ap (λ (h : ℕ). replicate h d) m

@@ -1,7 +1,6 @@
 -- Reading the entries of a member into a tile, one append after another.
 -- Assumes nothing.
-use Prim.Native.Nat.{ℕ, zero, suc, _+_, _-_, _*_, _≤_, _<_}
-use native.Mathlib.Nat.{sub-zero, suc-sub-suc}
+use Prim.Native.Nat.{ℕ, _+_, _-_, _*_, _≤_, _<_}
 use native.Mathlib.Numerals.{add-one}
 use native.Mathlib.Omega.{arith}
 use mathlib.Core.Bool.{true}
@@ -20,14 +19,9 @@ use Rattle.member.specs.declared.Member.{Member}
 use Rattle.image.specs.Reader.{took, fault, then, readRow, readRows, above, tileWith}
 use Rattle.image.proofs.Shapes.{row-matches}
 use Rattle.image.proofs.Members.{names, row-in}
-use Rattle.image.proofs.Reading.{SoFar, far-start, far-more, far-fault, far-end}
+use Rattle.image.proofs.Reading.{SoFar, far-start, far-more, far-fault, far-end, drop-same}
 
 -- ---- an append
-
-drop-zeros : (k n : ℕ) → drop k (replicate n none) ≡ replicate (n - k) none
-drop-zeros zero n = ap (λ (i : ℕ). replicate i none) (sym (sub-zero n))
-drop-zeros (suc k) zero = let e : 0 - suc k ≡ 0 = omega arith in rw e
-drop-zeros (suc k) (suc n) = drop-zeros k n ∙ ap (λ (i : ℕ). replicate i none) (sym (suc-sub-suc n k))
 
 append-is : (low : ℕ) (l : List Row) (r : Row) → length l < slots → goesAbove l r ≡ true
     → appendOf (tileWith low l) r ≡ tileWith low (l ++ (r ∷ []))
@@ -41,7 +35,7 @@ append-is low l r h g =
     let f : replicate (length l) none ++ z ≡ replicate slots none =
     replicate-append-replicate (length l) (slots - length l) none ∙ ap (λ (i : ℕ). replicate i none) k
     in
-    rw (e, u, g, f, drop-zeros (length m) slots)
+    rw (e, u, g, f, drop-same none (length m) slots)
 
 -- the least name that may follow r
 end-after : (l : List Row) (r : Row) → r .name ≤ largestName → endBelow (l ++ (r ∷ [])) (length l + 1) ≡ above r

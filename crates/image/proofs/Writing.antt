@@ -5,8 +5,8 @@ use native.Mathlib.Nat.{sub-zero}
 use native.Mathlib.Omega.{arith}
 use mathlib.Core.Bool.{Bool, true}
 use mathlib.Core.Path.{_≡_, refl, sym, ap, ap₂, _∙_}
-use mathlib.Core.List.{List, [], _∷_, _++_, append-assoc, append-nil, flatMap}
-use lib.ListN.{length, take, drop, replicate, length-append, length-replicate}
+use mathlib.Core.List.{List, [], _∷_, _++_, append-assoc, append-nil, map, flatMap}
+use lib.ListN.{length, take, drop, replicate, length-append, length-replicate, length-take, length-map}
 use lib.Dec.{leb}
 use borrow.Author.Tests.{leb-true, le-leb, lt-leb}
 use Rattle.fields.specs.Bits.{fieldBits, putBits, bytesFor, Below}
@@ -17,9 +17,12 @@ use Rattle.fields.proofs.Answers.{put-below}
 use Rattle.fields.proofs.Filling.{Filled, filled-none, filled-put, filled-packed}
 use Rattle.member.specs.Tile.{entries}
 use Rattle.suite.specs.Sets.{all}
-use Rattle.suite.specs.Suite.{tiles, ballots}
+use Rattle.suite.specs.Suite.{tiles, ballots, ballotsIn}
 use Rattle.suite.specs.Outcome.{answered}
 use Rattle.suite.specs.declared.Suite.{Suite}
+use Rattle.suite.specs.declared.Frame.{Frame}
+use Rattle.tile.specs.Lent.{tileIn}
+use Rattle.directory.specs.Lent.{suiteIn}
 use Rattle.image.specs.Layout.{Piece, rowPieces, votePieces, memberPieces, suitePieces, bitsIn, widths, longest, imageOf}
 use Rattle.image.specs.Writer.{putAll, untouched, fillOf}
 use Rattle.image.proofs.All.{all-cons, all-append}
@@ -35,6 +38,11 @@ take-used n k l e = ap (λ (i : ℕ). take i l) e ∙ go n l
     go zero b = refl
     go (suc m) [] = refl
     go (suc m) (x ∷ b) = ap (λ t. x ∷ t) (go m b)
+
+-- each of the tiles has its votes
+pub tiles-counted : (f : Frame) (l : List (List ℕ)) → length (f .votes) ≡ 8 → length l ≡ 8 → length (ballotsIn f) ≡ length (tiles (suiteIn f l))
+tiles-counted f l v e =
+    omega (arith, length-take (f .count) (f .votes), length-take (f .count) (map tileIn l), length-map l tileIn)
 
 -- a field keeps the lowest bits of its number
 put-low : (bytes : List ℕ) (at w v : ℕ) → putOf bytes at w (v % 2 ^ w) ≡ putOf bytes at w v

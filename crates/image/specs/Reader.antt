@@ -1,5 +1,5 @@
 -- The rules paper, "Suite image": the reader goes in field order and its first fault decides.
-use mathlib.Core.List.{List, [], _∷_, _++_}
+use mathlib.Core.List.{List, [], _∷_, _++_, map}
 use mathlib.Core.Bool.{Bool, true, false, cond, _&&_}
 use Prim.Native.Nat.{ℕ, zero, suc, _+_, _-_}
 use lib.ListN.{length, drop, replicate}
@@ -14,11 +14,13 @@ use Rattle.member.specs.Change.{rowWith}
 use Rattle.member.specs.declared.Row.{Row}
 use Rattle.member.specs.declared.Member.{Member}
 use Rattle.suite.specs.Sets.{total, all}
-use Rattle.suite.specs.Suite.{quorum}
+use Rattle.suite.specs.Suite.{quorum, frameOf}
 use Rattle.suite.specs.Outcome.{Outcome, answered, refused, numberOf}
 use Rattle.suite.specs.Calls.{Result}
 use Rattle.suite.specs.Create.{freshSuite, blank}
 use Rattle.suite.specs.declared.Suite.{Suite}
+use Rattle.suite.specs.declared.Frame.{Frame}
+use Rattle.tile.specs.Lent.{tileIn}
 use Rattle.image.specs.Layout.{edition, nameWidth}
 use Rattle.image.specs.declared.Loading.{Loading}
 use Rattle.image.specs.declared.Loading.the-variants as loading
@@ -146,5 +148,23 @@ abbrev pub loadingOf : Loading → Outcome
 loadingOf loading.Done = answered []
 loadingOf (loading.No r) = refused (numberOf r)
 
-abbrev pub loadedOf : Loaded → Result
-loadedOf r = record { outcome = loadingOf (r .answer); suite = r .suite }
+-- what loading comes to: the outcome, the suite without its members, and the members that the lent tiles then hold
+pub record Load : Type 0 where
+  pub outcome : Outcome
+  pub frame : Frame
+  pub members : List Member
+
+-- what stands beside a refusal
+abbrev pub noFrame : Frame
+noFrame = record { votes = replicate 8 0; read = 0; write = 0; count = 0 }
+
+-- Loading replaces the whole suite; a refusal leaves the tiles as they were.
+unfoldable pub loadOf : List ℕ → List (List ℕ) → Load
+loadOf image lent = loads (readImage image .outcome) (readImage image .suite)
+  where
+    loads : Outcome → Suite → Load
+    loads (answered vs) s = record { outcome = answered vs; frame = frameOf s; members = s .members }
+    loads (refused n) s = record { outcome = refused n; frame = noFrame; members = map tileIn lent }
+
+abbrev pub loadedIn : Loaded → List (List ℕ) → Load
+loadedIn r lent = record { outcome = loadingOf (r .answer); frame = r .frame; members = map tileIn lent }

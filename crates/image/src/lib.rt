@@ -1,14 +1,14 @@
-// The suite image: a suite as bytes, written and read back.
+// The suite image: a suite as bytes, written and read back. The members stand in lent tiles.
 mod reader;
 mod writer;
 
+use suite::Frame;
 use suite::Refusal;
-use suite::Suite;
 ghost use mathlib.Core.Path.{_≡_};
+ghost use Rattle.directory.specs.Lent.{suiteIn};
 ghost use Rattle.image.specs.Layout.{imageOf};
 ghost use Rattle.image.specs.Writer.{lentOf, fillOf, writeOf};
-ghost use Rattle.image.specs.Reader.{loadedOf, readImage};
-ghost use Rattle.suite.specs.Create.{blank};
+ghost use Rattle.image.specs.Reader.{noFrame, loadOf, loadedIn};
 
 // The longest image, in bytes.
 pub const LONGEST: usize = 2725;
@@ -24,21 +24,21 @@ pub enum Written {
 }
 
 // Writes the image of a suite to the start of the lent bytes.
-pub fn write(suite: Suite, out: &mut [u8]) -> Written
-    ensures { λ r. ⌜ lentOf r (now (out .exit)) ≡ writeOf suite (now (out .entry)) ⌝ }
+pub fn write(frame: Frame, lent: &[[u32; 130]; 8], out: &mut [u8]) -> Written
+    ensures { λ r. ⌜ lentOf r (now (out .exit)) ≡ writeOf (suiteIn frame (now (lent .entry))) (now (out .entry)) ⌝ }
 {
-    if suite.is_sound() {
-        return write_unchecked(suite, out);
+    if directory::is_sound(frame, lent) {
+        return write_unchecked(frame, lent, out);
     }
     Written::No(Refusal::Unsound)
 }
 
 // Writes the image of a suite that is known to be sound: of any other, the lowest bits of what does not fit its field.
-pub fn write_unchecked(suite: Suite, out: &mut [u8]) -> Written
-    ensures { λ r. ⌜ lentOf r (now (out .exit)) ≡ fillOf (imageOf suite) (now (out .entry)) ⌝ }
+pub fn write_unchecked(frame: Frame, lent: &[[u32; 130]; 8], out: &mut [u8]) -> Written
+    ensures { λ r. ⌜ lentOf r (now (out .exit)) ≡ fillOf (imageOf (suiteIn frame (now (lent .entry)))) (now (out .entry)) ⌝ }
 {
     let mut image = [0u8; LONGEST];
-    let bits = writer::put_suite(&mut image, suite);
+    let bits = writer::put_suite(&mut image, frame, lent);
     let length = (bits + 7) / 8;
     if out.len() < length {
         return Written::No(Refusal::Buffer);
@@ -47,39 +47,43 @@ pub fn write_unchecked(suite: Suite, out: &mut [u8]) -> Written
     Written::Done { length }
 }
 
-// What the reader answers; on a refusal the suite beside it has no members.
+// What the reader answers.
 pub enum Loading {
     Done,
     No(Refusal),
 }
 
+// On a refusal the frame beside it has no members.
 pub struct Loaded {
     pub answer: Loading,
-    pub suite: Suite,
+    pub frame: Frame,
 }
 
 fn not_loaded(refusal: Refusal) -> Loaded
-    ensures { λ r. ⌜ r ≡ record { answer = Loading.No refusal; suite = blank } ⌝ }
+    ensures { λ r. ⌜ r ≡ record { answer = Loading.No refusal; frame = noFrame } ⌝ }
 {
     Loaded {
         answer: Loading::No(refusal),
-        suite: reader::nothing(),
+        frame: reader::nothing(),
     }
 }
 
-// The suite that an image holds, or the refusal.
-pub fn read(bytes: &[u8]) -> Loaded
-    ensures { λ r. ⌜ loadedOf r ≡ readImage (now (bytes .entry)) ⌝ }
+// Loads the suite that an image holds into the lent tiles, or gives the refusal and leaves them as they were.
+pub fn read(bytes: &[u8], lent: &mut [[u32; 130]; 8]) -> Loaded
+    ensures { λ r. ⌜ loadedIn r (now (lent .exit)) ≡ loadOf (now (bytes .entry)) (now (lent .entry)) ⌝ }
 {
-    let parsed = reader::read_suite(bytes);
+    let none = [0u32; 130];
+    let mut tiles = [none; 8];
+    let parsed = reader::read_suite(bytes, &mut tiles);
     let place = parsed.place;
     match place {
         reader::Place::At(end) => {
             if reader::only_padding(bytes, end) {
-                let suite = parsed.suite;
+                let frame = parsed.frame;
+                *lent = tiles;
                 return Loaded {
                     answer: Loading::Done,
-                    suite,
+                    frame,
                 };
             }
             not_loaded(Refusal::Padding)

@@ -3,19 +3,19 @@
 use crate::EDITION;
 use crate::NAME;
 use fields::Field;
-use member::Member;
 use member::Row;
-use suite::Creation;
+use suite::Frame;
 use suite::Refusal;
-use suite::Suite;
 ghost use mathlib.Core.Path.{_≡_};
-ghost use Prim.Native.Nat.{_+_, _*_, _^_, _≤_, _<_};
+ghost use mathlib.Core.List.{map};
+ghost use Prim.Native.Nat.{_+_, _-_, _*_, _^_, _≤_, _<_};
 ghost use lib.ListN.{length, take, drop, replicate};
 ghost use Rattle.fields.specs.Bits.{bitsOf};
 ghost use Rattle.member.specs.Tile.{freshTile};
-ghost use Rattle.suite.specs.Create.{blank};
+ghost use Rattle.tile.specs.Lent.{tileIn};
+ghost use Rattle.directory.specs.Lent.{suiteIn};
 ghost use Rattle.image.specs.Layout.{nameWidth};
-ghost use Rattle.image.specs.Reader.{field, each, readRow, readRows, readMember, readMembers, readVoted, readSuite, onlyPadding};
+ghost use Rattle.image.specs.Reader.{field, each, readRow, readRows, readMember, readMembers, readVoted, readSuite, onlyPadding, noFrame};
 ghost use Rattle.image.specs.Steps.{entryOf, placedOf, endsBy};
 
 // An entry, or the first fault in it.
@@ -30,19 +30,15 @@ pub enum Place {
     No(Refusal),
 }
 
-pub struct Tile {
-    pub place: Place,
-    pub member: Member,
-}
-
 pub struct Ballots {
     pub place: Place,
     pub votes: [u32; 8],
 }
 
+// The votes, R and W stand beside the place; the members stand in lent tiles.
 pub struct Parsed {
     pub place: Place,
-    pub suite: Suite,
+    pub frame: Frame,
 }
 
 fn wide(x: u32) -> u64
@@ -51,25 +47,15 @@ fn wide(x: u32) -> u64
     x as u64
 }
 
-// A suite of no members: what stands beside a refusal.
-pub(crate) fn nothing() -> Suite
-    ensures { λ r. ⌜ r ≡ blank ⌝ }
+// What stands beside a refusal.
+pub(crate) fn nothing() -> Frame
+    ensures { λ r. ⌜ r ≡ noFrame ⌝ }
 {
-    Suite {
-        members: [Member::fresh(); 8],
+    Frame {
         votes: [0u32; 8],
         read: 0,
         write: 0,
         count: 0,
-    }
-}
-
-fn no_member(refusal: Refusal) -> Tile
-    ensures { λ r. ⌜ r .place ≡ Place.No refusal ⌝ }
-{
-    Tile {
-        place: Place::No(refusal),
-        member: Member::fresh(),
     }
 }
 
@@ -78,7 +64,7 @@ fn no_suite(refusal: Refusal) -> Parsed
 {
     Parsed {
         place: Place::No(refusal),
-        suite: nothing(),
+        frame: nothing(),
     }
 }
 
@@ -117,11 +103,11 @@ fn read_row(bytes: &[u8], at: usize, lowest: u64) -> Entry
 }
 
 // The entries of a member, ascending.
-fn read_rows(bytes: &[u8], at: usize, low: u32, count: usize) -> Tile
+fn read_rows(bytes: &[u8], at: usize, low: u32, count: usize, tile: &mut [u32; 130]) -> Place
     requires { ⌜ (at ≤ 22000) × (count ≤ 32) ⌝ }
-    ensures { λ r. ⌜ (placedOf (r .place) (r .member) ≡ readRows (now (bytes .entry)) nameWidth count low at) × endsBy (r .place) (at + 2688) ⌝ }
+    ensures { λ r. ⌜ (placedOf r (tileIn (now (tile .exit))) ≡ readRows (now (bytes .entry)) nameWidth count low at) × endsBy r (at + 2688) ⌝ }
 {
-    let mut member = Member::empty(low);
+    tile::empty(tile, low);
     let mut next = at;
     let mut lowest: u64 = 0;
     let mut i = 0;
@@ -129,44 +115,42 @@ fn read_rows(bytes: &[u8], at: usize, low: u32, count: usize) -> Tile
         let entry = read_row(bytes, next, lowest);
         match entry {
             Entry::Is(row) => {
-                member = member.append(row);
+                tile::append(tile, row);
                 lowest = wide(row.name) + 1;
                 next += 84;
                 i += 1;
             }
             Entry::No(refusal) => {
-                return no_member(refusal);
+                return Place::No(refusal);
             }
         }
     }
-    Tile {
-        place: Place::At(next),
-        member,
-    }
+    Place::At(next)
 }
 
-fn read_member(bytes: &[u8], at: usize) -> Tile
+fn read_member(bytes: &[u8], at: usize, tile: &mut [u32; 130]) -> Place
     requires { ⌜ at ≤ 21000 ⌝ }
-    ensures { λ r. ⌜ (placedOf (r .place) (r .member) ≡ readMember (now (bytes .entry)) nameWidth at) × endsBy (r .place) (at + 2718) ⌝ }
+    ensures { λ r. ⌜ (placedOf r (tileIn (now (tile .exit))) ≡ readMember (now (bytes .entry)) nameWidth at) × endsBy r (at + 2718) ⌝ }
 {
     let second = at + 6;
     let third = second + 24;
     let Field::Is(count) = fields::read(bytes, at, 6) else {
-        return no_member(Refusal::Short);
+        return Place::No(Refusal::Short);
     };
     if 32 < count {
-        return no_member(Refusal::Field);
+        return Place::No(Refusal::Field);
     }
     let Field::Is(low) = fields::read(bytes, second, 24) else {
-        return no_member(Refusal::Short);
+        return Place::No(Refusal::Short);
     };
-    read_rows(bytes, third, low, count as usize)
+    read_rows(bytes, third, low, count as usize, tile)
 }
 
-// The votes, one for each member.
+// The votes, one for each member; the places past them hold zero.
 fn read_votes(bytes: &[u8], at: usize, count: usize) -> Ballots
     requires { ⌜ (at ≤ 21) × (count ≤ 8) ⌝ }
-    ensures { λ r. ⌜ (placedOf (r .place) (take count (r .votes)) ≡ each (field (now (bytes .entry)) 4) count at) × endsBy (r .place) (at + 32) ⌝ }
+    ensures { λ r. ⌜ (placedOf (r .place) (take count (r .votes)) ≡ each (field (now (bytes .entry)) 4) count at)
+        × (endsBy (r .place) (at + 32) × (drop count (r .votes) ≡ replicate (8 - count) 0)) ⌝ }
 {
     let mut votes = [0u32; 8];
     let mut next = at;
@@ -188,60 +172,67 @@ fn read_votes(bytes: &[u8], at: usize, count: usize) -> Ballots
     }
 }
 
-// The members of a suite that was just created.
-fn read_members(bytes: &[u8], at: usize, mut suite: Suite) -> Parsed
-    requires { ⌜ (at ≤ 53) × ((suite .count ≤ 8) × (suite .members ≡ replicate 8 freshTile)) ⌝ }
-    ensures { λ r. ⌜ (placedOf (r .place) (r .suite) ≡ readMembers (now (bytes .entry)) nameWidth suite at) × endsBy (r .place) (at + 21744) ⌝ }
+// The members, as many as there are votes, into tiles that are fresh.
+fn read_members(bytes: &[u8], at: usize, frame: Frame, lent: &mut [[u32; 130]; 8]) -> Place
+    requires { ⌜ (at ≤ 53) × ((frame .count ≤ 8) × (map tileIn (now lent) ≡ replicate 8 freshTile)) ⌝ }
+    ensures { λ r. ⌜ (placedOf r (suiteIn frame (now (lent .exit))) ≡ readMembers (now (bytes .entry)) nameWidth (suiteIn frame (now (lent .entry))) at) × endsBy r (at + 21744) ⌝ }
 {
-    let count = suite.count;
+    let count = frame.count;
     let mut next = at;
     let mut i = 0;
     while i < count {
-        let tile = read_member(bytes, next);
-        let place = tile.place;
+        let place = read_member(bytes, next, &mut lent[i]);
         match place {
             Place::At(after) => {
-                let member = tile.member;
-                suite.members[i] = member;
                 next = after;
                 i += 1;
             }
             Place::No(refusal) => {
-                return no_suite(refusal);
+                return Place::No(refusal);
             }
         }
     }
-    Parsed {
-        place: Place::At(next),
-        suite,
-    }
+    Place::At(next)
 }
 
-// The votes and the members. Creation judges R, W and V.
-fn read_voted(bytes: &[u8], count: usize, read: u32, write: u32) -> Parsed
-    requires { ⌜ (1 ≤ count) × (count ≤ 8) ⌝ }
-    ensures { λ r. ⌜ (placedOf (r .place) (r .suite) ≡ readVoted (now (bytes .entry)) nameWidth count read write 21) × endsBy (r .place) 21797 ⌝ }
+// The votes and the members. R, W and V are judged after the last vote.
+fn read_voted(
+    bytes: &[u8],
+    count: usize,
+    read: u32,
+    write: u32,
+    lent: &mut [[u32; 130]; 8],
+) -> Parsed
+    requires { ⌜ (1 ≤ count) × ((count ≤ 8) × (map tileIn (now lent) ≡ replicate 8 freshTile)) ⌝ }
+    ensures { λ r. ⌜ (placedOf (r .place) (suiteIn (r .frame) (now (lent .exit))) ≡ readVoted (now (bytes .entry)) nameWidth count read write 21) × endsBy (r .place) 21797 ⌝ }
 {
     let ballots = read_votes(bytes, 21, count);
     let place = ballots.place;
     let votes = ballots.votes;
     match place {
         Place::At(next) => {
-            let created = Suite::create(read, write, &votes[..count]);
-            let creation = created.answer;
-            let suite = created.suite;
-            let Creation::Done = creation else {
-                return no_suite(Refusal::Field);
+            let frame = Frame {
+                votes,
+                read,
+                write,
+                count,
             };
-            read_members(bytes, next, suite)
+            if frame.is_sound() {
+                return Parsed {
+                    place: read_members(bytes, next, frame, lent),
+                    frame,
+                };
+            }
+            no_suite(Refusal::Field)
         }
         Place::No(refusal) => no_suite(refusal),
     }
 }
 
 // All fields, from the first bit on.
-pub(crate) fn read_suite(bytes: &[u8]) -> Parsed
-    ensures { λ r. ⌜ (placedOf (r .place) (r .suite) ≡ readSuite (now (bytes .entry)) nameWidth 0) × endsBy (r .place) 21797 ⌝ }
+pub(crate) fn read_suite(bytes: &[u8], lent: &mut [[u32; 130]; 8]) -> Parsed
+    requires { ⌜ map tileIn (now lent) ≡ replicate 8 freshTile ⌝ }
+    ensures { λ r. ⌜ (placedOf (r .place) (suiteIn (r .frame) (now (lent .exit))) ≡ readSuite (now (bytes .entry)) nameWidth 0) × endsBy (r .place) 21797 ⌝ }
 {
     let Field::Is(number) = fields::read(bytes, 0, 4) else {
         return no_suite(Refusal::Short);
@@ -258,7 +249,7 @@ pub(crate) fn read_suite(bytes: &[u8]) -> Parsed
     let Field::Is(write) = fields::read(bytes, 14, 7) else {
         return no_suite(Refusal::Short);
     };
-    read_voted(bytes, less as usize + 1, read, write)
+    read_voted(bytes, less as usize + 1, read, write, lent)
 }
 
 // Are the bits from `end` on fewer than a byte, and all 0?

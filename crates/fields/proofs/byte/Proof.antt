@@ -1,7 +1,6 @@
 -- `fields::byte` meets its contract: within the list the byte is read, and past its end `getD` gives 0.
 -- Assumes nothing.
 use borrow.Author.Needs.{needs}
-use native.Mathlib.Omega.{arith}
 use mathlib.Core.Path.{sym}
 use lib.ListN.{List·getD-eq-default}
 use Rattle.fields.proofs.byte.Statement.{statement}
@@ -14,7 +13,7 @@ wide-requires : tie.Need-wide-requires
 wide-requires c κs = search needs
 
 returns : tie.Need-returns
-returns c = (c .wide .ensures, omega (arith, c .wide .ensures, c .before .before .before .shared-slice-known .given (c .before .before .before .before .args .i)))
+returns c = c .wide .ensures
 
 returns-2 : tie.Need-returns-2
 returns-2 c = (sym (List·getD-eq-default (c .before .before .args .bytes .now) 0 (c .if1 .left)), search needs)

@@ -1,4 +1,4 @@
--- `not_loaded` stands beside a suite of no members.
+-- `not_loaded` stands beside a frame of no members.
 use borrow.Author.Needs.{needs}
 use Rattle.image.proofs.not_loaded.Statement.{statement}
 use Rattle.image.proofs.not_loaded.Tie as tie

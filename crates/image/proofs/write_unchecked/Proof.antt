@@ -5,6 +5,7 @@ use mathlib.Core.List.{List, [], _∷_, _++_}
 use Prim.Native.Nat.{ℕ, _+_, _/_}
 use lib.ListN.{length, drop}
 use Rattle.suite.specs.Outcome.{answered}
+use Rattle.directory.specs.Lent.{suiteIn}
 use Rattle.image.specs.Layout.{imageOf}
 use Rattle.image.proofs.Writing.{Whole, whole, fill-short, fill-fits}
 use borrow.Author.Needs.{needs}
@@ -21,13 +22,17 @@ add-length : tie.Need-add-length
 add-length c = search needs
 
 -- what the buffer holds
-filled : (c : tie.After-image2) → Whole (c .before .before .before .before .args .suite) (c .before .put-suite .last .0) (c .before .put-suite .result)
-filled c = let p = c .before .put-suite in whole (c .before .before .before .before .args .suite) (p .last .0) (p .result) (p .ensures .0) (p .ensures .1 .0) (p .ensures .1 .1)
+filled : (c : tie.After-image2) → (let a = c .before .before .before .before .args in Whole (suiteIn (a .frame) (a .lent .now)) (c .before .put-suite .last .0) (c .before .put-suite .result))
+filled c =
+    let a = c .before .before .before .before .args in
+    let p = c .before .put-suite in
+    whole (suiteIn (a .frame) (a .lent .now)) (p .last .0) (p .result) (p .ensures .0) (p .ensures .1 .0) (p .ensures .1 .1)
 
 returns : tie.Need-returns
 returns c =
     let w = filled (c .before) in
-    sym (fill-short (imageOf (c .before .before .before .before .before .args .suite)) (c .before .before .before .before .before .args .out .now) (omega (arith, c .if1 .taken, w .size)))
+    let a = c .before .before .before .before .before .args in
+    sym (fill-short (imageOf (suiteIn (a .frame) (a .lent .now))) (a .out .now) (omega (arith, c .if1 .taken, w .size)))
 
 slice-aggregate-copy : tie.Need-slice-aggregate-copy
 slice-aggregate-copy c = search needs
@@ -41,8 +46,9 @@ same-length c = search needs
 returns-2 : tie.Need-returns-2
 returns-2 c =
     let w = filled (c .before .before .before .before .before .before) in
-    let s = c .before .before .before .before .before .before .before .before .before .before .args .suite in
-    let out = c .before .before .before .before .before .before .before .before .before .before .args .out .now in
+    let a = c .before .before .before .before .before .before .before .before .before .before .args in
+    let s = suiteIn (a .frame) (a .lent .now) in
+    let out = a .out .now in
     let n : length (imageOf s) ≡ (c .before .before .before .before .before .before .before .put-suite .result + 7) / 8 = w .size in
     (λ j. record {
       outcome = answered (sym n j ∷ []);

@@ -39,24 +39,16 @@ enum-known-count c = search needs
 enum-told : tie.Need-enum-told
 enum-told c = search needs
 
-no-member-requires : tie.Need-no-member-requires
-no-member-requires c κs = search needs
-
 returns : tie.Need-returns
 unfolding readMember then judged
-returns c =
-    rw (c .no-member .ensures, field-short _ 6 _ (sym (c .before .before .before .read .ensures) ∙ c .before .enum-told .given .1)) (refl, tt)
-
-no-member-requires-2 : tie.Need-no-member-requires-2
-no-member-requires-2 c κs = search needs
+returns c = rw (field-short _ 6 _ (sym (c .before .before .read .ensures) ∙ c .enum-told .given .1)) (refl, tt)
 
 returns-2 : tie.Need-returns-2
 unfolding readMember then judged
 returns-2 c =
     rw (
-      c .no-member2 .ensures,
-      count-is (c .before .before .before),
-      lt-leb (c .before .before .before .count .given .0 .0) 32 (omega (arith, c .before .if1 .taken)),
+      count-is (c .before .before),
+      lt-leb (c .before .before .count .given .0 .0) 32 (omega (arith, c .if1 .taken)),
     ) (refl, tt)
 
 read-requires-2 : tie.Need-read-requires-2
@@ -68,17 +60,13 @@ enum-known-low c = search needs
 enum-told-2 : tie.Need-enum-told-2
 enum-told-2 c = search needs
 
-no-member-requires-3 : tie.Need-no-member-requires-3
-no-member-requires-3 c κs = search needs
-
 returns-3 : tie.Need-returns-3
 unfolding readMember then judged
 returns-3 c =
     rw (
-      c .no-member3 .ensures,
-      count-is (c .before .before .before .before .before .before),
-      count-passes (c .before .before .before .before),
-      field-short _ 24 _ (sym (c .before .before .before .read2 .ensures) ∙ c .before .enum-told2 .given .1),
+      count-is (c .before .before .before .before .before),
+      count-passes (c .before .before .before),
+      field-short _ 24 _ (sym (c .before .before .read2 .ensures) ∙ c .enum-told2 .given .1),
     ) (refl, tt)
 
 cast-read-rows : tie.Need-cast-read-rows
@@ -90,10 +78,10 @@ read-rows-requires c κs = search needs
 returns-4 : tie.Need-returns-4
 unfolding readMember then judged
 returns-4 c =
-    let e : c .before .before .before .before .before .before .before .before .before .before .before .args .at + 6 + 24 + 2688 ≡ c .before .before .before .before .before .before .before .before .before .before .before .args .at + 2718 = omega arith in
-    rw (count-is (c .before .before .before .before .before .before .before), count-passes (c .before .before .before .before .before), low-is (c .before .before)) (
+    let e : c .before .before .before .before .before .before .before .before .before .before .before .before .args .at + 6 + 24 + 2688 ≡ c .before .before .before .before .before .before .before .before .before .before .before .before .args .at + 2718 = omega arith in
+    rw (count-is (c .before .before .before .before .before .before .before .before), count-passes (c .before .before .before .before .before .before), low-is (c .before .before .before)) (
       c .read-rows .ensures .0,
-      subst (λ (n : ℕ). endsBy (c .read-rows .result .place) n) e (c .read-rows .ensures .1),
+      subst (λ (n : ℕ). endsBy (c .read-rows .result) n) e (c .read-rows .ensures .1),
     )
 
 pub read-member-spec : {M : Type 1} → statement M
@@ -105,14 +93,11 @@ read-member-spec =
     read-requires
     enum-known-count
     enum-told
-    no-member-requires
     returns
-    no-member-requires-2
     returns-2
     read-requires-2
     enum-known-low
     enum-told-2
-    no-member-requires-3
     returns-3
     cast-read-rows
     read-rows-requires

@@ -1,29 +1,30 @@
--- `read_rows` appends entry after entry, or ends with the first fault.
+-- `read_rows` appends entry after entry to the tile, or ends with the first fault.
 use borrow.Author.Needs.{needs}
 use native.Mathlib.Omega.{arith}
 use mathlib.Core.Path.{sym, ap, _∙_}
 use Prim.Native.Nat.{_+_, _-_}
+use Rattle.tile.specs.Lent.{tileIn}
+use Rattle.suite.specs.Outcome.{numberOf}
 use Rattle.image.specs.Steps.{entryOf}
 use Rattle.image.specs.declared.reader.Entry.{Entry}
-use Rattle.suite.specs.Outcome.{numberOf}
 use Rattle.image.proofs.Rows.{RowsSoFar, rows-start, rows-more, rows-fault, rows-end}
 use Rattle.image.proofs.reader.read_rows.Statement.{statement}
 use Rattle.image.proofs.reader.read_rows.Tie as tie
 
 abbrev Inv-loop : tie.InvT-loop
-Inv-loop bytes at low count member₀ next₀ lowest₀ i₀ member next lowest i = RowsSoFar bytes count low at member next lowest i
+Inv-loop bytes at low count tile₀ next₀ lowest₀ i₀ tile next lowest i = RowsSoFar bytes count low at (tileIn tile) next lowest i
 
 abbrev μ-loop : tie.MeasureT-loop
-μ-loop bytes at low count member₀ next₀ lowest₀ i₀ member next lowest i = count - i
+μ-loop bytes at low count tile₀ next₀ lowest₀ i₀ tile next lowest i = count - i
 
 empty-requires : tie.Need-empty-requires Inv-loop μ-loop
 empty-requires c κs = search needs
 
 loop-holds : tie.Need-loop-holds Inv-loop μ-loop
-loop-holds c = let a = c .before .before .args in rows-start (a .bytes .now) (a .count) (a .low) (a .at) (omega arith) (c .empty .result) (c .empty .ensures)
+loop-holds c = let a = c .before .before .before .args in rows-start (a .bytes .now) (a .count) (a .low) (a .at) (omega arith) (tileIn (c .empty .last .0)) (c .empty .ensures)
 
 read-row-requires : tie.Need-read-row-requires Inv-loop μ-loop
-read-row-requires c κs = omega (arith, c .before .loop .inv .place, c .before .before .before .before .pre)
+read-row-requires c κs = omega (arith, c .before .loop .inv .place, c .before .before .before .before .before .pre)
 
 enum-known-entry : tie.Need-enum-known-entry Inv-loop μ-loop
 enum-known-entry c = search needs
@@ -38,7 +39,7 @@ add-lowest : tie.Need-add-lowest Inv-loop μ-loop
 add-lowest c = omega arith
 
 add-next : tie.Need-add-next Inv-loop μ-loop
-add-next c = omega (arith, c .before .before .before .before .before .before .before .loop .inv .place, c .before .before .before .before .before .before .before .before .before .before .pre)
+add-next c = omega (arith, c .before .before .before .before .before .before .before .before .loop .inv .place, c .before .before .before .before .before .before .before .before .before .before .before .before .pre)
 
 add-i : tie.Need-add-i Inv-loop μ-loop
 add-i c = omega arith
@@ -48,41 +49,37 @@ loop-less c = omega arith
 
 loop-again : tie.Need-loop-again Inv-loop μ-loop
 loop-again c =
-    let a = c .before .before .before .before .before .before .before .before .before .before .args in
-    let l = c .before .before .before .before .before .before .before .loop in
-    let e = c .before .before .before .entry in
-    let r = c .before .before .before .before .before .read-row in
+    let a = c .before .before .before .before .before .before .before .before .before .before .before .before .args in
+    let l = c .before .before .before .before .before .before .before .before .loop in
+    let e = c .before .before .before .before .entry in
+    let r = c .before .before .before .before .before .before .read-row in
     rw (c .wide .ensures .0)
-    (rows-more (a .bytes .now) (a .count) (a .low) (a .at) (omega arith) (l .member) (c .before .append .result) (l .next) (l .lowest) (l .i) (e .given .0 .0) (l .inv)
-    (c .before .before .before .before .before .before .loop-test .taken)
+    (rows-more (a .bytes .now) (a .count) (a .low) (a .at) (omega arith) (tileIn (l .tile)) (tileIn (c .before .append .last .0)) (l .next) (l .lowest) (l .i) (e .given .0 .0) (l .inv)
+    (c .before .before .before .before .before .before .before .loop-test .taken)
     (sym (ap (λ (x : Entry). entryOf x (l .next + 84)) (e .given .1)) ∙ r .ensures)
     (c .before .append .ensures))
 
 enum-known-entry-2 : tie.Need-enum-known-entry-2 Inv-loop μ-loop
 enum-known-entry-2 c = search needs
 
-no-member-requires : tie.Need-no-member-requires Inv-loop μ-loop
-no-member-requires c κs = search needs
-
 returns : tie.Need-returns Inv-loop μ-loop
 returns c =
     let a = c .before .before .before .before .before .before .before .before .before .args in
-    let l = c .before .before .before .before .before .before .loop in
-    let e = c .before .before .entry2 in
-    let r = c .before .before .before .before .read-row in
-    rw (c .no-member .ensures) (
-      rows-fault (a .bytes .now) (a .count) (a .low) (a .at) (omega arith) (l .member) (l .next) (l .lowest) (l .i) (numberOf (e .given .0 .0)) (l .inv)
-          (c .before .before .before .before .before .loop-test .taken)
+    let l = c .before .before .before .before .before .loop in
+    let e = c .before .entry2 in
+    let r = c .before .before .before .read-row in (
+      rows-fault (a .bytes .now) (a .count) (a .low) (a .at) (omega arith) (tileIn (l .tile)) (l .next) (l .lowest) (l .i) (numberOf (e .given .0 .0)) (l .inv)
+          (c .before .before .before .before .loop-test .taken)
           (sym (ap (λ (x : Entry). entryOf x (l .next + 84)) (e .given .1)) ∙ r .ensures),
       tt,
     )
 
 returns-2 : tie.Need-returns-2 Inv-loop μ-loop
 returns-2 c =
-    let a = c .before .before .before .before .args in
+    let a = c .before .before .before .before .before .args in
     let l = c .before .loop in (
-      rows-end (a .bytes .now) (a .count) (a .low) (a .at) (omega arith) (l .member) (l .next) (l .lowest) (l .i) (l .inv) (c .loop-test .left),
-      omega (arith, l .inv .place, l .inv .so-far .few, c .before .before .before .before .pre),
+      rows-end (a .bytes .now) (a .count) (a .low) (a .at) (omega arith) (tileIn (l .tile)) (l .next) (l .lowest) (l .i) (l .inv) (c .loop-test .left),
+      omega (arith, l .inv .place, l .inv .so-far .few, c .before .before .before .before .before .pre),
     )
 
 pub read-rows-spec : {M : Type 1} → statement M
@@ -103,6 +100,5 @@ read-rows-spec =
     loop-less
     loop-again
     enum-known-entry-2
-    no-member-requires
     returns
     returns-2)

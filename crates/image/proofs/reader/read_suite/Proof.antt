@@ -136,12 +136,12 @@ add-read-voted : tie.Need-add-read-voted
 add-read-voted c = search needs
 
 read-voted-requires : tie.Need-read-voted-requires
-read-voted-requires c κs = omega (arith, less-small (c .before .before .before .before .before .before .before .before .before))
+read-voted-requires c κs = (omega arith, (omega (arith, less-small (c .before .before .before .before .before .before .before .before .before .before)), c .before .before .before .before .before .before .before .before .before .before .before .before .before .before .before .before .before .before .before .pre))
 
 returns-6 : tie.Need-returns-6
 unfolding readSuite then judged
 returns-6 c =
-    rw (number-is (c .before .before .before .before .before .before .before .before .before .before .before .before .before .before .before), number-passes (c .before .before .before .before .before .before .before .before .before .before .before .before .before), less-is (c .before .before .before .before .before .before .before .before .before .before), r-is (c .before .before .before .before .before .before), w-is (c .before .before)) (c .read-voted .ensures)
+    rw (number-is (c .before .before .before .before .before .before .before .before .before .before .before .before .before .before .before .before), number-passes (c .before .before .before .before .before .before .before .before .before .before .before .before .before .before), less-is (c .before .before .before .before .before .before .before .before .before .before .before), r-is (c .before .before .before .before .before .before .before), w-is (c .before .before .before)) (c .read-voted .ensures)
 
 pub read-suite-spec : {M : Type 1} → statement M
 read-suite-spec =

@@ -1,16 +1,13 @@
--- `read_voted` reads the votes, has creation judge them, and reads the members.
+-- `read_voted` reads the votes, judges them with R and W, and reads the members.
 use native.Mathlib.Omega.{arith}
 use mathlib.Core.Path.{_≡_, sym, ap, subst, _∙_}
 use Prim.Native.Nat.{_+_, _≤_}
 use lib.ListN.{length, take}
-use lib.Seq.{length-take-le}
 use Rattle.suite.specs.Outcome.{numberOf}
-use Rattle.suite.specs.Create.{freshSuite}
-use Rattle.suite.specs.declared.Suite.{Suite}
-use Rattle.image.specs.Reader.{took, field, each, readMembers}
+use Rattle.image.specs.Reader.{took, field, each}
 use Rattle.image.specs.Steps.{placedOf, endsBy}
 use Rattle.image.specs.declared.reader.Place.{Place}
-use Rattle.image.proofs.Voting.{Begun, voted-fault, voted-done, voted-not, ends-le}
+use Rattle.image.proofs.Voting.{voted-fault, voted-sound, voted-not, ends-le}
 use borrow.Author.Needs.{needs}
 use Rattle.image.proofs.reader.read_voted.Statement.{statement}
 use Rattle.image.proofs.reader.read_voted.Tie as tie
@@ -24,17 +21,7 @@ votes-are c =
     ∙ c .before .before .before .read-votes .ensures .0
 
 next-near : (c : tie.After-place) → c .place .given .0 .0 ≤ 53
-next-near c = subst (λ (x : Place). endsBy x 53) (c .place .given .1) (c .before .before .before .read-votes .ensures .1)
-
--- the suite that was created
-begun : (c : tie.After-enum-told)
-    → Begun (c .before .before .before .before .before .before .before .before .before .before .before .args .bytes .now) (c .before .before .before .before .before .before .before .before .before .before .before .args .count) (c .before .before .before .before .before .before .before .before .before .before .before .args .read) (c .before .before .before .before .before .before .before .before .before .before .before .args .write) (c .before .before .before .before .before .before .place .given .0 .0)
-    (take (c .before .before .before .before .before .before .before .before .before .before .before .args .count) (c .before .before .before .before .before .before .before .before .before .read-votes .result .votes)) (omega arith) (omega arith) (votes-are (c .before .before .before .before .before .before))
-    (c .before .before .before .create .result .suite)
-begun c =
-    voted-done (c .before .before .before .before .before .before .before .before .before .before .before .args .bytes .now) (c .before .before .before .before .before .before .before .before .before .before .before .args .count) (c .before .before .before .before .before .before .before .before .before .before .before .args .read) (c .before .before .before .before .before .before .before .before .before .before .before .args .write) (c .before .before .before .before .before .before .place .given .0 .0)
-    (take (c .before .before .before .before .before .before .before .before .before .before .before .args .count) (c .before .before .before .before .before .before .before .before .before .read-votes .result .votes)) (omega arith) (omega arith) (votes-are (c .before .before .before .before .before .before))
-    (c .before .before .before .create .result) (c .before .before .before .create .ensures) (c .enum-told .given .1)
+next-near c = subst (λ (x : Place). endsBy x 53) (c .place .given .1) (c .before .before .before .read-votes .ensures .1 .0)
 
 read-votes-requires : tie.Need-read-votes-requires
 read-votes-requires c κs = search needs
@@ -42,49 +29,29 @@ read-votes-requires c κs = search needs
 enum-known-place : tie.Need-enum-known-place
 enum-known-place c = search needs
 
-array-share-prefix-votes : tie.Need-array-share-prefix-votes
-array-share-prefix-votes c = let e : length (c .before .before .before .before .read-votes .result .votes) ≡ 8 = search needs in omega arith
+is-sound-requires : tie.Need-is-sound-requires
+is-sound-requires c κs = search needs
 
-slice-aggregate-create : tie.Need-slice-aggregate-create
-slice-aggregate-create c =
-    let e : length (c .before .before .before .before .before .read-votes .result .votes) ≡ 8 = search needs in
-    sym (length-take-le (c .before .before .before .before .before .before .before .args .count) (c .before .before .before .before .before .read-votes .result .votes) (omega arith))
-
-create-requires : tie.Need-create-requires
-create-requires c κs = search needs
-
-enum-told : tie.Need-enum-told
-enum-told c = search needs
-
-enum-told-2 : tie.Need-enum-told-2
-enum-told-2 c = search needs
-
-no-suite-requires : tie.Need-no-suite-requires
-no-suite-requires c κs = search needs
+read-members-requires : tie.Need-read-members-requires
+read-members-requires c κs = (next-near (c .before .before .before .before), (c .before .before .before .before .before .before .before .before .before .pre .1 .0, c .before .before .before .before .before .before .before .before .before .pre .1 .1))
 
 returns : tie.Need-returns
 returns c =
-    let a = c .before .before .before .before .before .before .before .before .before .before .before .before .args in
-    let e = c .before .enum-told2 in
-    rw (c .no-suite .ensures) (
-      voted-not (a .bytes .now) (a .count) (a .read) (a .write) (c .before .before .before .before .before .before .before .place .given .0 .0) (take (a .count) (c .before .before .before .before .before .before .before .before .before .before .read-votes .result .votes)) (omega arith) (omega arith)
-          (votes-are (c .before .before .before .before .before .before .before))
-          (c .before .before .before .before .create .result)
-          (c .before .before .before .before .create .ensures)
-          (e .given .0 .0)
-          (e .given .1),
-      tt,
+    let a = c .before .before .before .before .before .before .before .before .before .before .args in
+    let v = c .before .before .before .before .before .before .before .before .read-votes .result .votes in
+    let p = c .before .before .before .before .before .place .given .0 .0 in
+    let n : length v ≡ 8 = search needs in
+    let e : p + 21744 ≤ 21797 = omega (arith, next-near (c .before .before .before .before .before)) in (
+      voted-sound (a .bytes .now) (a .count) (a .read) (a .write) p v (c .before .before .before .before .before .before .before .before .before .before .pre .0) (c .before .before .before .before .before .before .before .before .before .before .pre .1 .0) n (c .before .before .before .before .before .before .before .before .read-votes .ensures .1 .1) (votes-are (c .before .before .before .before .before))
+          (a .lent .now)
+          (c .before .before .before .before .before .before .before .before .before .before .pre .1 .1)
+          (sym (c .before .before .before .is-sound .ensures) ∙ c .before .before .if1 .taken)
+          (c .read-members .ensures .0),
+      ends-le (c .read-members .result) _ _ e (c .read-members .ensures .1),
     )
 
-read-members-requires : tie.Need-read-members-requires
-unfolding freshSuite
-read-members-requires c κs =
-    let v = c .before .before .before .before .before .before .before .before .before .read-votes .result .votes in
-    let k = c .before .before .before .before .before .before .before .before .before .before .before .args .count in
-    let l : length v ≡ 8 = search needs in
-    let n : length (take k v) ≡ k = length-take-le k v (omega arith) in
-    let m : c .before .before .before .create .result .suite .count ≡ length (take k v) = ap (λ (t : Suite). t .count) (begun c .suite) in
-    (next-near (c .before .before .before .before .before .before), (omega arith, ap (λ (t : Suite). t .members) (begun c .suite)))
+no-suite-requires : tie.Need-no-suite-requires
+no-suite-requires c κs = search needs
 
 enum-known-place-2 : tie.Need-enum-known-place-2
 enum-known-place-2 c = search needs
@@ -94,12 +61,13 @@ no-suite-requires-2 c κs = search needs
 
 returns-2 : tie.Need-returns-2
 returns-2 c =
-    let g = begun (c .before) in
-    let e : c .before .before .before .before .before .before .before .place .given .0 .0 + 21744 ≤ 21797 = omega (arith, next-near (c .before .before .before .before .before .before .before)) in (
-      c .read-members .ensures .0
-          ∙ ap (λ (t : Suite). readMembers (c .before .before .before .before .before .before .before .before .before .before .before .before .args .bytes .now) 20 t (c .before .before .before .before .before .before .before .place .given .0 .0)) (g .suite)
-          ∙ sym (g .rest),
-      ends-le (c .read-members .result .place) _ _ e (c .read-members .ensures .1),
+    let a = c .before .before .before .before .before .before .before .before .before .args in
+    let v = c .before .before .before .before .before .before .before .read-votes .result .votes in
+    let n : length v ≡ 8 = search needs in
+    rw (c .no-suite .ensures) (
+      voted-not (a .bytes .now) (a .count) (a .read) (a .write) (c .before .before .before .before .place .given .0 .0) v (c .before .before .before .before .before .before .before .before .before .pre .0) (c .before .before .before .before .before .before .before .before .before .pre .1 .0) n (c .before .before .before .before .before .before .before .read-votes .ensures .1 .1) (votes-are (c .before .before .before .before))
+          (sym (c .before .before .is-sound .ensures) ∙ c .before .if1 .left),
+      tt,
     )
 
 returns-3 : tie.Need-returns-3
@@ -119,14 +87,10 @@ read-voted-spec =
     (tie.spec
     read-votes-requires
     enum-known-place
-    array-share-prefix-votes
-    slice-aggregate-create
-    create-requires
-    enum-told
-    enum-told-2
-    no-suite-requires
-    returns
+    is-sound-requires
     read-members-requires
+    returns
+    no-suite-requires
     enum-known-place-2
     no-suite-requires-2
     returns-2

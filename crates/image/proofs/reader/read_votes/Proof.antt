@@ -5,7 +5,7 @@ use mathlib.Core.Path.{_≡_, refl, sym, _∙_}
 use Prim.Native.Nat.{_+_, _-_, _*_}
 use Rattle.image.specs.Reader.{field}
 use Rattle.image.proofs.Matching.{field-is, field-short}
-use Rattle.image.proofs.Reading.{PlacesSoFar, places-start, places-more, places-fault, places-end}
+use Rattle.image.proofs.Reading.{PlacesSoFar, places-start, places-more, places-fault, places-end, places-free}
 use Rattle.image.proofs.reader.read_votes.Statement.{statement}
 use Rattle.image.proofs.reader.read_votes.Tie as tie
 
@@ -33,7 +33,7 @@ returns c =
     let l = c .before .before .before .before .loop in
     let e = field-short (a .bytes .now) 4 (l .next) (sym (c .before .before .read .ensures) ∙ c .enum-told .given .1) in (
       sym (places-fault (field (a .bytes .now) 4) 0 (a .count) (a .at) (omega arith) (l .votes) (l .next) (l .i) (l .inv .0) 15 (c .before .before .before .loop-test .taken) (sym e)),
-      tt,
+      (tt, places-free (field (a .bytes .now) 4) 0 (a .count) (a .at) (omega arith) (l .votes) (l .next) (l .i) (l .inv .0)),
     )
 
 mul-votes : tie.Need-mul-votes Inv-loop μ-loop
@@ -66,7 +66,10 @@ returns-2 c =
     let a = c .before .before .before .args in
     let l = c .before .loop in (
       sym (places-end (field (a .bytes .now) 4) 0 (a .count) (a .at) (omega arith) (l .votes) (l .next) (l .i) (l .inv .0) (c .loop-test .left)),
-      omega (arith, l .inv .1, l .inv .0 .so-far .few, c .before .before .before .pre),
+      (
+        omega (arith, l .inv .1, l .inv .0 .so-far .few, c .before .before .before .pre),
+        places-free (field (a .bytes .now) 4) 0 (a .count) (a .at) (omega arith) (l .votes) (l .next) (l .i) (l .inv .0),
+      ),
     )
 
 pub read-votes-spec : {M : Type 1} → statement M

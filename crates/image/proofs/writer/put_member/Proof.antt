@@ -6,13 +6,14 @@ use mathlib.Core.List.{List, flatMap}
 use Prim.Native.Nat.{ℕ, _+_}
 use Rattle.fields.specs.Field.{putOf}
 use Rattle.member.specs.Tile.{entries}
+use Rattle.tile.specs.Lent.{tileIn}
 use Rattle.image.specs.Layout.{rowPieces, memberPieces, widths}
 use Rattle.image.specs.Writer.{putAll}
 use Rattle.image.proofs.writer.put_member.Statement.{statement}
 use Rattle.image.proofs.writer.put_member.Tie as tie
 
-used-requires : tie.Need-used-requires
-used-requires c κs = search needs
+size-requires : tie.Need-size-requires
+size-requires c κs = search needs
 
 add-low : tie.Need-add-low
 add-low c = search needs
@@ -26,8 +27,8 @@ cast-put c = search needs
 put-requires : tie.Need-put-requires
 put-requires c κs = search needs
 
-lowest-gap-requires : tie.Need-lowest-gap-requires
-lowest-gap-requires c κs = search needs
+lowest-requires : tie.Need-lowest-requires
+lowest-requires c κs = search needs
 
 put-requires-2 : tie.Need-put-requires-2
 put-requires-2 c κs = search needs
@@ -47,11 +48,11 @@ returns c =
       (
         omega (arith, rows .ensures .1 .0),
         rows .ensures .1 .1
-            ∙ ap (λ (l : List ℕ). putAll l (a .at + 6 + 24) (flatMap (rowPieces 20) (entries (a .member))))
+            ∙ ap (λ (l : List ℕ). putAll l (a .at + 6 + 24) (flatMap (rowPieces 20) (entries (tileIn (a .tile .now)))))
             (c .before .before .before .before .before .before .put2 .ensures
             ∙ ap₂ (λ (l : List ℕ) (v : ℕ). putOf l (a .at + 6) 24 v)
-            (c .before .before .before .before .before .before .before .before .before .before .before .put .ensures ∙ ap (putOf (a .out .now) (a .at) 6) (c .before .before .before .before .before .before .before .before .before .before .before .before .before .used .ensures .0))
-            (c .before .before .before .before .before .before .before .lowest-gap .ensures)),
+            (c .before .before .before .before .before .before .before .before .before .before .before .put .ensures ∙ ap (putOf (a .out .now) (a .at) 6) (c .before .before .before .before .before .before .before .before .before .before .before .before .before .size .ensures .0))
+            (c .before .before .before .before .before .before .before .lowest .ensures)),
       ),
     )
 
@@ -59,12 +60,12 @@ pub put-member-spec : {M : Type 1} → statement M
 put-member-spec =
     tie.close
     (tie.spec
-    used-requires
+    size-requires
     add-low
     add-rows
     cast-put
     put-requires
-    lowest-gap-requires
+    lowest-requires
     put-requires-2
     put-rows-requires
     same-length

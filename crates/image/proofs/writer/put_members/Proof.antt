@@ -1,13 +1,12 @@
 -- `put_members` puts the members, one after another.
-use borrow.Author.Needs.{needs}
 use native.Mathlib.Omega.{arith}
 use mathlib.Core.Path.{_≡_, sym, ap, _∙_}
-use mathlib.Core.List.{[]}
+use mathlib.Core.List.{[], map}
 use Prim.Native.Nat.{_+_, _*_, _-_, _≤_}
-use lib.ListN.{length, take}
+use lib.ListN.{length, take, length-map, List·getD-map}
 use lib.Seq.{getD-take, length-take-le}
-use Rattle.member.proofs.Rows.{length-of-map}
 use Rattle.member.specs.declared.Member.{Member}
+use Rattle.tile.specs.Lent.{tileIn}
 use Rattle.image.specs.Layout.{memberPieces, widths}
 use Rattle.image.specs.Writer.{putAll}
 use Rattle.image.proofs.Putting.{PutUpTo, put-start, put-more, put-end, put-length}
@@ -15,23 +14,20 @@ use Rattle.image.proofs.writer.put_members.Statement.{statement}
 use Rattle.image.proofs.writer.put_members.Tie as tie
 
 abbrev Inv-loop : tie.InvT-loop
-Inv-loop out₀ at count members next₀ i₀ out next i = PutUpTo (memberPieces 20) (take count members) out₀ at out next i × (next ≤ at + 2718 * i)
+Inv-loop out₀ at lent count next₀ i₀ out next i =
+    PutUpTo (memberPieces 20) (take count (map tileIn lent)) out₀ at out next i × (next ≤ at + 2718 * i)
 
 abbrev μ-loop : tie.MeasureT-loop
-μ-loop out₀ at count members next₀ i₀ out next i = count - i
-
--- what a place past the last would hold
-nothing : Member
-nothing = record { low = 0; count = 0; rows = [] }
+μ-loop out₀ at lent count next₀ i₀ out next i = count - i
 
 loop-holds : tie.Need-loop-holds Inv-loop μ-loop
 loop-holds c = (put-start (memberPieces 20) _ _ _, omega arith)
 
-mul-member : tie.Need-mul-member Inv-loop μ-loop
-mul-member c = search needs
+mul-put-member : tie.Need-mul-put-member Inv-loop μ-loop
+mul-put-member c = omega arith
 
-array-copy-out-member : tie.Need-array-copy-out-member Inv-loop μ-loop
-array-copy-out-member c = search needs
+index-1-put-member : tie.Need-index-1-put-member Inv-loop μ-loop
+index-1-put-member c = omega arith
 
 put-member-requires : tie.Need-put-member-requires Inv-loop μ-loop
 put-member-requires c κs = omega arith
@@ -43,17 +39,21 @@ loop-less : tie.Need-loop-less Inv-loop μ-loop
 loop-less c = omega arith
 
 loop-again : tie.Need-loop-again Inv-loop μ-loop
-unfolding nothing
 loop-again c =
     let a = c .before .before .before .before .before .before .before .before .args in
     let l = c .before .before .before .before .before .before .loop in
     let p = c .before .before .put-member in
-    let e : length (a .t3) ≡ 8 = search (needs, length-of-map) in
-    let n : length (take (a .count) (a .t3)) ≡ a .count = length-take-le (a .count) (a .t3) (omega arith) in
-    let m = getD-take (a .count) (a .t3) (l .i) nothing (c .before .before .before .before .before .loop-test .taken) in (
-      put-more (memberPieces 20) (take (a .count) (a .t3)) (a .out .now) (a .at) nothing (l .out) (p .last .0) (l .next) (p .result) (l .i) (l .inv .0) (omega arith)
-          (p .ensures .1 .1 ∙ ap (λ (t : Member). putAll (l .out) (l .next) (memberPieces 20 t)) (sym m))
-          (p .ensures .0 ∙ ap (λ (t : Member). l .next + widths (memberPieces 20 t)) (sym m)),
+    let t = a .lent .now in
+    let n : length (take (a .count) (map tileIn t)) ≡ a .count =
+    length-take-le (a .count) (map tileIn t) (omega (arith, length-map t tileIn))
+    in
+    let m =
+    getD-take (a .count) (map tileIn t) (l .i) (tileIn []) (c .before .before .before .before .before .loop-test .taken)
+    ∙ List·getD-map tileIn t (l .i) []
+    in (
+      put-more (memberPieces 20) (take (a .count) (map tileIn t)) (a .out .now) (a .at) (tileIn []) (l .out) (p .last .0) (l .next) (p .result) (l .i) (l .inv .0) (omega arith)
+          (p .ensures .1 .1 ∙ ap (λ (x : Member). putAll (l .out) (l .next) (memberPieces 20 x)) (sym m))
+          (p .ensures .0 ∙ ap (λ (x : Member). l .next + widths (memberPieces 20 x)) (sym m)),
       omega (arith, p .ensures .1 .0),
     )
 
@@ -64,9 +64,11 @@ returns : tie.Need-returns Inv-loop μ-loop
 returns c =
     let a = c .before .before .before .args in
     let l = c .before .loop in
-    let e : length (a .t3) ≡ 8 = search (needs, length-of-map) in
-    let n : length (take (a .count) (a .t3)) ≡ a .count = length-take-le (a .count) (a .t3) (omega arith) in
-    let r = put-end (memberPieces 20) (take (a .count) (a .t3)) (a .out .now) (a .at) (l .out) (l .next) (l .i) (l .inv .0) (omega arith) in
+    let t = a .lent .now in
+    let n : length (take (a .count) (map tileIn t)) ≡ a .count =
+    length-take-le (a .count) (map tileIn t) (omega (arith, length-map t tileIn))
+    in
+    let r = put-end (memberPieces 20) (take (a .count) (map tileIn t)) (a .out .now) (a .at) (l .out) (l .next) (l .i) (l .inv .0) (omega arith) in
     (r .0, (omega (arith, l .inv .1, l .inv .0 .few), r .1))
 
 pub put-members-spec : {M : Type 1} → statement M
@@ -76,8 +78,8 @@ put-members-spec =
     Inv-loop
     μ-loop
     loop-holds
-    mul-member
-    array-copy-out-member
+    mul-put-member
+    index-1-put-member
     put-member-requires
     add-i
     loop-less

@@ -1,12 +1,13 @@
 -- `put_suite` puts every field of a suite.
 use native.Mathlib.Omega.{arith}
+use Rattle.directory.specs.Lent.{suiteIn}
 use Rattle.image.proofs.Writing.{suite-put}
 use borrow.Author.Needs.{needs}
 use Rattle.image.proofs.writer.put_suite.Statement.{statement}
 use Rattle.image.proofs.writer.put_suite.Tie as tie
 
-size-requires : tie.Need-size-requires
-size-requires c κs = search needs
+places-requires : tie.Need-places-requires
+places-requires c κs = search needs
 
 put-requires : tie.Need-put-requires
 put-requires c κs = search needs
@@ -34,12 +35,12 @@ same-length c = search needs
 
 returns : tie.Need-returns
 returns c =
-    let a = c .before .before .before .before .before .before .before .before .before .before .before .before .before .before .before .before .before .before .before .before .before .before .before .before .before .before .before .before .before .args in
-    let n = c .before .before .before .before .before .before .before .before .before .before .before .before .before .before .before .before .before .before .before .before .before .before .before .before .before .before .before .size in
+    let a = c .before .before .before .before .before .before .before .before .before .before .before .before .before .before .before .before .before .before .before .before .before .before .before .before .before .before .before .before .args in
+    let n = c .before .before .before .before .before .before .before .before .before .before .before .before .before .before .before .before .before .before .before .before .before .before .before .before .before .before .places in
     let p = c .before .before .put-members in
     let q = c .before .before .before .before .before .before .put-votes in
     let e =
-    suite-put (a .suite) (a .out .now) (c .before .before .before .before .before .before .before .before .before .before .before .before .before .before .before .before .before .before .before .before .before .before .before .put .last .0) (c .before .before .before .before .before .before .before .before .before .before .before .before .before .before .before .before .before .before .put2 .last .0) (c .before .before .before .before .before .before .before .before .before .before .before .before .before .before .put3 .last .0) (c .before .before .before .before .before .before .before .before .before .before .put4 .last .0) (q .last .0) (p .last .0) (n .result) (c .before .before .before .before .before .before .before .before .before .before .before .before .before .before .before .before .before .before .before .less-one .result) (q .result) (p .result)
+    suite-put (suiteIn (a .frame) (a .lent .now)) (a .out .now) (c .before .before .before .before .before .before .before .before .before .before .before .before .before .before .before .before .before .before .before .before .before .before .before .put .last .0) (c .before .before .before .before .before .before .before .before .before .before .before .before .before .before .before .before .before .before .put2 .last .0) (c .before .before .before .before .before .before .before .before .before .before .before .before .before .before .put3 .last .0) (c .before .before .before .before .before .before .before .before .before .before .put4 .last .0) (q .last .0) (p .last .0) (n .result) (c .before .before .before .before .before .before .before .before .before .before .before .before .before .before .before .before .before .before .before .less-one .result) (q .result) (p .result)
     (n .ensures .0)
     (n .ensures .1 .0)
     (c .before .before .before .before .before .before .before .before .before .before .before .before .before .before .before .before .before .before .before .less-one .ensures)
@@ -58,7 +59,7 @@ pub put-suite-spec : {M : Type 1} → statement M
 put-suite-spec =
     tie.close
     (tie.spec
-    size-requires
+    places-requires
     put-requires
     less-one-requires
     put-requires-2

@@ -1,10 +1,10 @@
--- `fields::word` meets its contract: four bytes stay below 2 ^ 32.
+-- `fields::last_word` meets its contract: four bytes, each tested by itself.
 -- Assumes nothing.
 use borrow.Author.Needs.{needs}
 use native.Mathlib.Omega.{arith}
 use Rattle.fields.specs.Word.{wordAt}
-use Rattle.fields.proofs.word.Statement.{statement}
-use Rattle.fields.proofs.word.Tie as tie
+use Rattle.fields.proofs.last_word.Statement.{statement}
+use Rattle.fields.proofs.last_word.Tie as tie
 
 byte-requires : tie.Need-byte-requires
 byte-requires c κs = search needs
@@ -27,30 +27,15 @@ add-byte-3 c = search needs
 byte-requires-4 : tie.Need-byte-requires-4
 byte-requires-4 c κs = search needs
 
-mul-result : tie.Need-mul-result
-mul-result c = omega arith
-
-add-result : tie.Need-add-result
-add-result c = omega arith
-
-mul-result-2 : tie.Need-mul-result-2
-mul-result-2 c = omega arith
-
-add-result-2 : tie.Need-add-result-2
-add-result-2 c = omega arith
-
-mul-result-3 : tie.Need-mul-result-3
-mul-result-3 c = omega arith
-
-add-result-3 : tie.Need-add-result-3
-add-result-3 c = omega arith
+joined-requires : tie.Need-joined-requires
+joined-requires c κs = search needs
 
 returns : tie.Need-returns
 unfolding wordAt
 returns c = omega arith
 
-pub word-spec : {M : Type 1} → statement M
-word-spec =
+pub last-word-spec : {M : Type 1} → statement M
+last-word-spec =
     tie.close
     (tie.spec
     byte-requires
@@ -60,10 +45,5 @@ word-spec =
     byte-requires-3
     add-byte-3
     byte-requires-4
-    mul-result
-    add-result
-    mul-result-2
-    add-result-2
-    mul-result-3
-    add-result-3
+    joined-requires
     returns)

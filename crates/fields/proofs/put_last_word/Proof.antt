@@ -1,4 +1,4 @@
--- `fields::put_word` meets its contract: four stores, one after the other.
+-- `fields::put_last_word` meets its contract: four stores, one after the other.
 -- Assumes nothing.
 use borrow.Author.Needs.{needs}
 use Prim.Native.Nat.{ℕ, _+_, _/_, _%_, _^_}
@@ -6,8 +6,8 @@ use mathlib.Core.Path.{ap, _∙_}
 use mathlib.Core.List.{List}
 use lib.ListN.{set}
 use Rattle.fields.specs.Word.{withWord}
-use Rattle.fields.proofs.put_word.Statement.{statement}
-use Rattle.fields.proofs.put_word.Tie as tie
+use Rattle.fields.proofs.put_last_word.Statement.{statement}
+use Rattle.fields.proofs.put_last_word.Tie as tie
 
 put-byte-requires : tie.Need-put-byte-requires
 put-byte-requires c κs = search needs
@@ -45,8 +45,8 @@ returns c =
     (c .before .before .before .before .before .before .before .before .before .before .put-byte2 .ensures
     ∙ ap (λ (l : List ℕ). set l (first + 1) (word / 2 ^ 16 % 256)) (c .before .before .before .before .before .before .before .before .before .before .before .before .before .before .put-byte .ensures)))
 
-pub put-word-spec : {M : Type 1} → statement M
-put-word-spec =
+pub put-last-word-spec : {M : Type 1} → statement M
+put-last-word-spec =
     tie.close
     (tie.spec
     put-byte-requires
