@@ -1,0 +1,4 @@
+// Every edge of the grammar, run.
+fn main() {
+    console::console();
+}

@@ -1,0 +1,4 @@
+pub mod Standing
+pub mod Lent
+pub mod Laws
+pub mod Determined

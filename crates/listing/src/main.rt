@@ -1,0 +1,4 @@
+// The rules paper's listing, run.
+fn main() {
+    console::console();
+}

@@ -1,0 +1,4 @@
+// A mixed script, run.
+fn main() {
+    console::console();
+}

@@ -1,0 +1,13 @@
+pub mod Course
+pub mod Lent
+pub mod LineLaws
+pub mod LongLine
+pub mod RunLaws
+pub mod Answers
+pub mod CutLaws
+pub mod RoomLaws
+pub mod SaidLaws
+pub mod ToldLaws
+pub mod FinishLaws
+pub mod KeptLaws
+pub mod Determined
