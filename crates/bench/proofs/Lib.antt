@@ -1,0 +1,3 @@
+mod Numbers
+mod Stepping
+pub mod Determined
