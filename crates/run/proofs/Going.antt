@@ -12,7 +12,7 @@ use Rattle.text.proofs.Longest.{longest, longest-fits}
 use Rattle.suite.specs.Outcome.{answered}
 use Rattle.line.specs.Standing.{Standing, Answer, answerOf}
 use Rattle.run.specs.Course.{linesIn, endIn, Course, Run, holding, between, still, after, runOn}
-use Rattle.run.specs.Lent.{Report, reportFrom, placedFrom}
+use Rattle.run.specs.Lent.{runFrom, reportFrom, placedFrom}
 use Rattle.run.specs.LineLaws.{no-newline, first-line, end-within}
 use Rattle.run.specs.RunLaws.{run-stop, run-line, run-last}
 
@@ -67,11 +67,9 @@ module _ (at written n : ℕ) (text : List ℕ) (r : Run) where
       ∙ regroup (take written out) text (r .said) (drop (k + length (r .said)) out)
       ∙ sym (λ j. a j ++ (r .said ++ b j))
 
--- the run from a place of the text on, where a line begins, with an output that is filled up to some byte
-abbrev pub runFrom : Standing → List ℕ → ℕ → List ℕ → ℕ → Run
-runFrom s text at out written = runOn (length out - written) (between s) (linesIn (drop at text))
-
-pub record Going (text : List ℕ) (s₀ : Standing) (from : ℕ) (out₀ : List ℕ) (filled : ℕ) (s : Standing) (at : ℕ) (out : List ℕ) (written end : ℕ) : Type 0 where
+-- where the run over the lines has come to
+pub record Going (text : List ℕ) (s₀ : Standing) (from : ℕ) (out₀ : List ℕ) (filled : ℕ)
+    (s : Standing) (at : ℕ) (out : List ℕ) (written end : ℕ) : Type 0 where
   pub place : at ≤ length text
   pub next : end ≡ at + endIn (drop at text)
   pub room : written ≤ length out

@@ -5,12 +5,11 @@ use native.Mathlib.Nat.{zero-add, zero-min, min-zero, suc-min-suc}
 use native.Mathlib.Numerals.{add-one}
 use native.Mathlib.Omega.{arith}
 use mathlib.Core.List.{List, [], _∷_, _++_, append-assoc}
-use lib.ListN.{length, take, drop, getD, set, replicate, length-append, length-take}
+use lib.ListN.{length, take, drop, getD, set, replicate, length-append}
 use lib.Seq.{paste, paste-zero, paste-suc, take-at, drop-at, drop-drop, take-append-add, take-length, length-take-le}
 use Rattle.text.specs.Line.{padded}
 use Rattle.line.specs.declared.State.{State}
 use Rattle.run.specs.Lent.{sessionOf}
-use Rattle.run.specs.declared.Session.{Session}
 
 -- the line after i of the bytes were put in
 pub record Copied (old : List ℕ) (at : ℕ) (bytes : List ℕ) (new : List ℕ) (i : ℕ) : Type 0 where

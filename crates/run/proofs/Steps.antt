@@ -81,7 +81,8 @@ well-left r old w t = rw (is-well (r .went) w) t
 
 -- the answer to what is kept of a line is the answer to the line
 module _ (t : Standing) where
-  pub whole-answer : (a : Answer) (r : Session) (state : State) (line : List ℕ) → r ≡ sessionOf state (take 81 line) → a ≡ answerOf t (heldIn r) → a ≡ answerOf t line
+  pub whole-answer : (a : Answer) (r : Session) (state : State) (line : List ℕ)
+      → r ≡ sessionOf state (take 81 line) → a ≡ answerOf t (heldIn r) → a ≡ answerOf t line
   whole-answer a r state line h e = e ∙ ap (answerOf t) (holds r state (take 81 line) (kept-short line) h) ∙ long-line t line
 
   pub none-held : (s : Session) (more : List ℕ) → s .held ≡ 0 → answerOf t more ≡ answerOf t (heldIn s ++ more)

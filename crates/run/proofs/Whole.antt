@@ -1,20 +1,20 @@
 -- The run over a chunk, by cases: refused, held whole, or its first line and the rest. Assumes nothing.
-use mathlib.Core.Path.{_≡_, refl, sym, _∙_, ap}
+use mathlib.Core.Path.{_≡_, sym, _∙_, ap}
 use Prim.Native.Nat.{ℕ, _+_, _-_, _≤_, _<_}
 use native.Mathlib.Nat.{zero-add}
 use native.Mathlib.Omega.{arith}
 use mathlib.Core.List.{List, [], _∷_, _++_}
-use mathlib.Core.Bool.{Bool, true, false, not, _&&_, cond}
-use lib.ListN.{length, take, drop, length-append}
+use mathlib.Core.Bool.{Bool, true, false, not}
+use lib.ListN.{length, take, drop}
 use lib.Seq.{length-take-le}
-use borrow.Author.Tests.{lt-ltb, le-ltb, eq-eqb, ne-eqb, not-true, not-false}
+use borrow.Author.Tests.{eq-eqb, ne-eqb, not-true, not-false}
 use Rattle.text.specs.Answer.{textOf, placeAfter, printed}
 use Rattle.text.specs.declared.Reply.{Reply}
 use Rattle.suite.specs.Outcome.{answered, refused}
 use Rattle.line.specs.Standing.{Answer, answerOf}
-use Rattle.run.specs.Course.{newline, linesIn, endIn, Course, Run, Told, holding, between, still, after, runOn, refusal, unsound, due, runOf, finishOf}
-use Rattle.run.specs.Lent.{Report, reportOf, reportFrom, placed, placedFrom}
-use Rattle.run.specs.LineLaws.{lines-are, no-newline, first-line, end-within}
+use Rattle.run.specs.Course.{newline, linesIn, endIn, Course, Run, Told, holding, between, still, after, runOn, refusal, unsound, runOf, finishOf}
+use Rattle.run.specs.Lent.{Report, runFrom, reportOf, reportFrom, placed, placedFrom}
+use Rattle.run.specs.LineLaws.{first-line, end-within}
 use Rattle.run.specs.RunLaws.{run-line}
 use Rattle.run.specs.ToldLaws.{told-held, told-run}
 use Rattle.run.proofs.Going.{with-text, long-as, report-on, placed-on, place-printed, text-printed, printed-within}
@@ -82,14 +82,16 @@ module _ (c : Course) (text out : List ℕ) (end : ℕ) (s : unsound (c .standin
   told-is = told-run c text (length out) s (omega arith) k ∙ ap (λ (r : Run). record { outcome = answered []; run = r }) first-then
 
   module _ (w : ℕ) (is-w : w ≡ placeAfter (length out) 0 (textOf (a .reply))) (out′ : List ℕ) (is-out : out′ ≡ printed out 0 (textOf (a .reply))) where
-    goes-on : runOn (length out′ - w) (between (a .standing)) (linesIn (drop (end + 1) text)) ≡ behind
+    goes-on : runFrom (a .standing) text (end + 1) out′ w ≡ behind
     goes-on =
-        let left : length out′ - w ≡ length out - length (textOf (a .reply)) = omega (arith, w-is out (a .reply) k w is-w out′ is-out, long-out out (a .reply) k w is-w out′ is-out) in
+        let at = w-is out (a .reply) k w is-w out′ is-out in
+        let long = long-out out (a .reply) k w is-w out′ is-out in
+        let left : length out′ - w ≡ length out - length (textOf (a .reply)) = omega arith in
         ap (λ (n : ℕ). runOn n (between (a .standing)) (linesIn (drop (end + 1) text))) left
 
     module _ (r : Report) (bytes : List ℕ)
-        (is-r : r ≡ reportFrom (end + 1) w (runOn (length out′ - w) (between (a .standing)) (linesIn (drop (end + 1) text))))
-        (is-bytes : bytes ≡ placedFrom w (runOn (length out′ - w) (between (a .standing)) (linesIn (drop (end + 1) text))) out′) where
+        (is-r : r ≡ reportFrom (end + 1) w (runFrom (a .standing) text (end + 1) out′ w))
+        (is-bytes : bytes ≡ placedFrom w (runFrom (a .standing) text (end + 1) out′ w) out′) where
       pub ran-is : (r ≡ reportOf (runOf c text (length out))) × (bytes ≡ placed (runOf c text (length out)) out)
       ran-is =
           let t : List ℕ = textOf (a .reply) in

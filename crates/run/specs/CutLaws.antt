@@ -1,18 +1,18 @@
 -- Cutting a text changes nothing: to run over it is to run over a first part, and then over the rest from the course that the
 -- first part leaves.
 use mathlib.Core.Path.{_≡_, refl, sym, _∙_, ap}
-use Prim.Native.Nat.{ℕ, zero, suc, _+_, _-_, _≤_, _<_}
+use Prim.Native.Nat.{ℕ, zero, suc, _+_, _≤_, _<_}
 use native.Mathlib.Omega.{arith}
-use mathlib.Core.List.{List, [], _∷_, _++_, append-assoc, append-nil}
+use mathlib.Core.List.{List, [], _∷_, _++_, append-assoc}
 use mathlib.Core.Bool.{Bool, true, false, cond}
 use lib.ListN.{length, take, drop, length-append, length-drop}
-use lib.Seq.{take-all, take-append-le, drop-append-le, length-take-le}
+use lib.Seq.{take-append-le, drop-append-le}
 use lib.Dec.{ltb, eqb}
 use borrow.Author.Tests.{ltb-true, ltb-false}
 use Rattle.text.specs.Words.{onto}
 use Rattle.text.specs.Answer.{textOf}
 use Rattle.line.specs.Standing.{Standing, Answer, answerOf}
-use Rattle.run.specs.Course.{newline, linesIn, endIn, Course, Run, holding, between, still, after}
+use Rattle.run.specs.Course.{newline, linesIn, endIn, Course, Run, holding, between, after}
 use Rattle.run.specs.LineLaws.{others, lines-are, no-newline, first-line, end-within}
 use Rattle.run.specs.LongLine.{long-line}
 use Rattle.run.specs.Answers.{runAll, thenRun}

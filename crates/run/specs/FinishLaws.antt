@@ -1,14 +1,13 @@
 -- The end of the text, where the suite is sound and an answer has room, is the end of the text without limit.
-use mathlib.Core.Path.{_≡_, refl, sym, _∙_, ap}
+use mathlib.Core.Path.{_≡_, refl}
 use Prim.Native.Nat.{ℕ, _≤_}
-use mathlib.Core.List.{List, [], _∷_, _++_}
+use mathlib.Core.List.{[], _∷_}
 use mathlib.Core.Bool.{Bool, true, false, cond}
 use lib.ListN.{length}
 use lib.Dec.{eqb}
 use borrow.Author.Tests.{le-ltb}
-use Rattle.text.specs.Answer.{textOf}
 use Rattle.suite.specs.Outcome.{answered}
-use Rattle.run.specs.Course.{newline, linesIn, Course, Told, still, runOn, unsound, due, runOf, finishOf}
+use Rattle.run.specs.Course.{newline, linesIn, Course, still, runOn, unsound, due, runOf, finishOf}
 use Rattle.run.specs.Answers.{runAll, closing}
 
 ends : (c : Course) (room : ℕ) → unsound (c .standing) ≡ false → 33 ≤ room

@@ -1,12 +1,13 @@
 -- What a session with its lent tiles is, and what a run reports.
 use mathlib.Core.List.{List, [], _++_}
-use Prim.Native.Nat.{ℕ, _+_}
+use Prim.Native.Nat.{ℕ, _+_, _-_}
 use lib.ListN.{length, take, drop, replicate}
 use Rattle.text.specs.Line.{padded}
 use Rattle.suite.specs.Outcome.{Outcome, answered, refused, numberOf}
+use Rattle.line.specs.Standing.{Standing}
 use Rattle.line.specs.Lent.{standingIn, freshState}
 use Rattle.line.specs.declared.State.{State}
-use Rattle.run.specs.Course.{Course, Run, Told}
+use Rattle.run.specs.Course.{linesIn, Course, Run, Told, between, runOn}
 use Rattle.run.specs.declared.Session.{Session}
 use Rattle.run.specs.declared.Went.{Went}
 use Rattle.run.specs.declared.Went.the-variants.{Well, No}
@@ -53,10 +54,13 @@ reportOf t = record { outcome = t .outcome; course = t .run .course; taken = t .
 abbrev pub placed : Told → List ℕ → List ℕ
 placed t out = t .run .said ++ drop (length (t .run .said)) out
 
--- the same for a run from some byte of the text and of the output on
+-- the same for the run from some byte of the text on, where a line begins, with the output filled up to some byte
+abbrev pub runFrom : Standing → List ℕ → ℕ → List ℕ → ℕ → Run
+runFrom s text at out filled = runOn (length out - filled) (between s) (linesIn (drop at text))
+
 abbrev pub reportFrom : ℕ → ℕ → Run → Report
-reportFrom at written r =
-    record { outcome = answered []; course = r .course; taken = at + r .taken; written = written + length (r .said) }
+reportFrom at filled r =
+    record { outcome = answered []; course = r .course; taken = at + r .taken; written = filled + length (r .said) }
 
 abbrev pub placedFrom : ℕ → Run → List ℕ → List ℕ
-placedFrom at r out = take at out ++ (r .said ++ drop (at + length (r .said)) out)
+placedFrom filled r out = take filled out ++ (r .said ++ drop (filled + length (r .said)) out)

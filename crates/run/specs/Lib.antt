@@ -11,3 +11,4 @@ pub mod ToldLaws
 pub mod FinishLaws
 pub mod KeptLaws
 pub mod Determined
+pub mod Closed

@@ -1,9 +1,9 @@
 -- 81 bytes of a line are enough: a longer line is answered as its first 81 bytes are, since both are not understood.
 use mathlib.Core.Path.{_≡_, refl, sym, _∙_}
-use Prim.Native.Nat.{ℕ, min, _≤_, _<_}
+use Prim.Native.Nat.{ℕ, _<_}
 use native.Mathlib.Omega.{arith}
 use mathlib.Core.List.{List}
-use mathlib.Core.Bool.{Bool, true, false, cond}
+use mathlib.Core.Bool.{Bool, true, false}
 use lib.ListN.{length, take, length-take}
 use lib.Seq.{take-all}
 use lib.Dec.{leb}

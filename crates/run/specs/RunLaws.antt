@@ -5,8 +5,8 @@ use mathlib.Core.List.{List, [], _∷_, _++_}
 use lib.ListN.{length}
 use borrow.Author.Tests.{lt-ltb, le-ltb}
 use Rattle.text.specs.Answer.{textOf}
-use Rattle.line.specs.Standing.{Answer, answerOf}
-use Rattle.run.specs.Course.{linesIn, Course, Run, holding, between, still, after, runOn}
+use Rattle.line.specs.Standing.{answerOf}
+use Rattle.run.specs.Course.{linesIn, Course, holding, between, still, after, runOn}
 use Rattle.run.specs.LineLaws.{lines-are}
 
 module _ (room : ℕ) (c : Course) (p l : List ℕ) where

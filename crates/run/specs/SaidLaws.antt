@@ -1,15 +1,15 @@
 -- What is said over a text, with what its end says, is the text of the answers to its lines, in order.
 use mathlib.Core.Path.{_≡_, refl, sym, _∙_, ap}
-use Prim.Native.Nat.{ℕ, _+_}
+use Prim.Native.Nat.{ℕ}
 use native.Mathlib.Omega.{arith}
 use mathlib.Core.List.{List, [], _∷_, _++_, append-assoc, append-nil}
-use mathlib.Core.Bool.{Bool, true, false, cond}
+use mathlib.Core.Bool.{Bool, true, false}
 use lib.ListN.{length, take, length-take}
 use lib.Dec.{eqb}
 use borrow.Author.Tests.{eqb-true, eqb-false, eq-eqb, ne-eqb}
 use Rattle.text.specs.Answer.{textOf}
 use Rattle.line.specs.Standing.{Standing, Answer, answerOf}
-use Rattle.run.specs.Course.{newline, linesIn, endIn, Course, Run, holding, between, still, after}
+use Rattle.run.specs.Course.{newline, linesIn, endIn, Course, Run, between}
 use Rattle.run.specs.LineLaws.{others, lines-are}
 use Rattle.run.specs.Answers.{answersOf, textsOf, wholeLines, runAll, closing, Chunk, runChunks, takenOf}
 use Rattle.run.specs.CutLaws.{kept-answer}

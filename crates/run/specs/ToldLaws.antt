@@ -7,8 +7,8 @@ use mathlib.Core.Bool.{Bool, true, false, _&&_, cond}
 use lib.ListN.{length, take, drop}
 use lib.Dec.{ltb}
 use borrow.Author.Tests.{lt-ltb, le-ltb, ltb-true, ltb-false}
-use Rattle.suite.specs.Outcome.{Outcome, answered, refused}
-use Rattle.run.specs.Course.{linesIn, endIn, Course, Run, Told, holding, still, runOn, refusal, unsound, due, runOf}
+use Rattle.suite.specs.Outcome.{answered, refused}
+use Rattle.run.specs.Course.{linesIn, endIn, Course, Run, Told, holding, runOn, refusal, unsound, due, runOf}
 use Rattle.run.specs.LineLaws.{lines-are, no-newline, first-line, end-within}
 use Rattle.run.specs.RunLaws.{run-line, run-last}
 

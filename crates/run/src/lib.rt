@@ -63,7 +63,7 @@ fn refuse(session: Session, refusal: Refusal) -> Ran
 }
 
 // Answers the lines that end in a chunk of text, as long as any answer has room in `out`, and holds what follows the last
-// newline. The caller comes again with what was not taken.
+// newline. The caller comes again with what was not taken. The last clause says what stands behind the held bytes.
 pub fn run(session: Session, lent: &mut [[u32; 130]; 8], text: &[u8], out: &mut [u8]) -> Ran
     ensures { λ r. ⌜ reportIn r (now (lent .exit)) ≡ reportOf (runOf (courseIn session (now (lent .entry))) (now (text .entry)) (length (now (out .entry)))) ⌝ }
     ensures { λ _. ⌜ now (out .exit) ≡ placed (runOf (courseIn session (now (lent .entry))) (now (text .entry)) (length (now (out .entry)))) (now (out .entry)) ⌝ }

@@ -6,11 +6,11 @@ use line::State;
 use text::Reply;
 ghost use mathlib.Core.Path.{_≡_};
 ghost use mathlib.Core.Bool.{not};
-ghost use Prim.Native.Nat.{_+_, _-_, _≤_};
+ghost use Prim.Native.Nat.{_+_, _≤_};
 ghost use lib.ListN.{length, drop};
 ghost use Rattle.line.specs.Lent.{standingIn};
-ghost use Rattle.run.specs.Course.{linesIn, endIn, between, runOn, unsound};
-ghost use Rattle.run.specs.Lent.{heldIn, sessionOf, reportIn, reportFrom, placedFrom};
+ghost use Rattle.run.specs.Course.{endIn, unsound};
+ghost use Rattle.run.specs.Lent.{heldIn, sessionOf, reportIn, runFrom, reportFrom, placedFrom};
 
 // Refusal 1 is judged once for all the lines of a chunk.
 pub(crate) fn is_sound(state: State, lent: &[[u32; 130]; 8]) -> bool
@@ -49,8 +49,8 @@ pub(crate) fn rest(
     filled: usize,
 ) -> Ran
     requires { ⌜ (from ≤ length (now text)) × (filled ≤ length (now out)) ⌝ }
-    ensures { λ r. ⌜ reportIn r (now (lent .exit)) ≡ reportFrom from filled (runOn (length (now (out .entry)) - filled) (between (standingIn state (now (lent .entry)))) (linesIn (drop from (now (text .entry))))) ⌝ }
-    ensures { λ _. ⌜ now (out .exit) ≡ placedFrom filled (runOn (length (now (out .entry)) - filled) (between (standingIn state (now (lent .entry)))) (linesIn (drop from (now (text .entry))))) (now (out .entry)) ⌝ }
+    ensures { λ r. ⌜ reportIn r (now (lent .exit)) ≡ reportFrom from filled (runFrom (standingIn state (now (lent .entry))) (now (text .entry)) from (now (out .entry)) filled) ⌝ }
+    ensures { λ _. ⌜ now (out .exit) ≡ placedFrom filled (runFrom (standingIn state (now (lent .entry))) (now (text .entry)) from (now (out .entry)) filled) (now (out .entry)) ⌝ }
     ensures { λ r. ⌜ r .session ≡ sessionOf (r .session .state) (heldIn (r .session)) ⌝ }
 {
     let mut at = from;

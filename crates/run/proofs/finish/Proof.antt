@@ -1,5 +1,5 @@
 -- `run::finish`: a newline ends the held line.
-use mathlib.Core.Path.{_≡_, refl, sym, _∙_, ap}
+use mathlib.Core.Path.{_≡_, sym, _∙_, ap}
 use Prim.Native.Nat.{min}
 use native.Mathlib.Omega.{arith}
 use mathlib.Core.List.{[]}

@@ -1,7 +1,7 @@
 -- `run::Session::hold`: the bytes that are held, and as many more as are kept, over zeros.
 use mathlib.Core.Path.{_≡_, sym}
 use native.Mathlib.Omega.{arith}
-use lib.ListN.{length, take, length-take}
+use lib.ListN.{length, length-take}
 use lib.Seq.{length-take-le}
 use borrow.Author.Needs.{needs}
 use Rattle.run.proofs.Holding.{holds}

@@ -3,7 +3,6 @@ use mathlib.Core.Path.{ap}
 use lib.ListN.{replicate}
 use borrow.Author.Needs.{needs}
 use Rattle.line.specs.declared.State.{State}
-use Rattle.run.specs.declared.Session.{Session}
 use Rattle.run.proofs.Session.start.Statement.{statement}
 use Rattle.run.proofs.Session.start.Tie as tie
 

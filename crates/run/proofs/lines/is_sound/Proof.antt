@@ -1,5 +1,5 @@
 -- `run::lines::is_sound`: only a suite that was accepted is judged.
-use mathlib.Core.Path.{_≡_, sym, _∙_, ap}
+use mathlib.Core.Path.{_≡_, _∙_}
 use mathlib.Core.Bool.{Bool, true, false, not, _&&_}
 use borrow.Author.Needs.{needs}
 use Rattle.run.specs.Course.{unsound}
