@@ -21,10 +21,9 @@ use Rattle.suite.specs.declared.Frame.{Frame}
 use Rattle.suite.specs.declared.Question.{Question}
 use Rattle.suite.specs.declared.Question.the-variants as question
 use Rattle.suite.proofs.Filling.{tile-at}
-use Rattle.suite.proofs.RowFacts.{bestOn}
 use Rattle.directory.specs.Lent.{suiteIn}
 use Rattle.directory.proofs.AskPlaces.{firstIn, tile-in, first-tiles}
-use Rattle.directory.proofs.SetFolds.{best-weighed, best-first, best-passed, best-past, every-on, every-stop, every-passed, every-past}
+use Rattle.suite.proofs.SetFolds.{bestOn, best-weighed, best-first, best-passed, best-past, every-on, every-stop, every-passed, every-past}
 
 -- the tile in place i
 pub place-in : (n : ℕ) (l : List (List ℕ)) (i : ℕ) → i < length (tiles (firstIn n l))

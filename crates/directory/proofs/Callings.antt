@@ -59,13 +59,12 @@ remove-refused f l rs ws x j {r} e t =
 pub each-lent : (f : Frame) (l : List (List ℕ)) → length l ≡ 8 → length (f .votes) ≡ 8 → length (tiles (suiteIn f l)) ≡ length (ballotsIn f)
 each-lent f l h k = one-vote-each (suiteIn f l) (length-map l tileIn ∙ h) k
 
--- It said nothing: each member has its votes, and the sets name only members that exist.
+-- It said nothing: each member has its votes, and the read set names only members that exist.
 pub record Passed (f : Frame) (l : List (List ℕ)) (w x v rs ws : ℕ) : Type 0 where
   pub each : length (tiles (suiteIn f l)) ≡ length (ballotsIn f)
   pub none : judged (ballotsIn f) (f .read) w x v rs ws ≡ 0
   pub fine : Fine (ballotsIn f) (f .read) w x v rs ws
   pub reads : rs < 2 ^ length (tiles (suiteIn f l))
-  pub writes : ws < 2 ^ length (tiles (suiteIn f l))
 
 pub passed : (f : Frame) (l : List (List ℕ)) (w x v rs ws : ℕ) (j : Judged) → j ≡ verdict.Fine
     → (length (tiles (suiteIn f l)) ≡ length (ballotsIn f)) × (judgedOf j ≡ judged (ballotsIn f) (f .read) w x v rs ws)
@@ -79,7 +78,6 @@ passed f l w x v rs ws j e (each, t) =
       none = none;
       fine = fine;
       reads = within s each rs (fine .reads);
-      writes = within s each ws (fine .writes);
     }
 
 -- Then the name's presence decides: the call ends with a refusal, or with what the change of the tiles comes to.

@@ -1,7 +1,6 @@
 pub mod AskPlaces
 pub mod AskChange
 pub mod AskTable
-pub mod SetFolds
 pub mod AskFolds
 pub mod RowFolds
 pub mod SoundPlaces

@@ -10,8 +10,7 @@ use Rattle.suite.specs.Best.{best, bestFrom}
 use Rattle.suite.specs.Sets.{chosen}
 use Rattle.suite.specs.SetLaws.{chosen-none}
 use Rattle.suite.specs.Rows.{noRow}
-use Rattle.suite.proofs.RowFacts.{bestOn}
-use Rattle.directory.proofs.SetFolds.{best-weighed, best-first, best-passed}
+use Rattle.suite.proofs.SetFolds.{bestOn, best-weighed, best-first, best-passed}
 
 -- the row in place at, where there is one already
 abbrev pub held : List (List ℕ) → Bool → ℕ → List ℕ

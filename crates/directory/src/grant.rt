@@ -1,17 +1,15 @@
 // The two changes, once the name's presence is settled: refusals 12 and 13, then the tiles of the write set are written.
-use crate::ask::change;
+use crate::change::coalesce_all;
+use crate::change::write_all;
 use crate::fit::all_fit_coalesce;
 use crate::fit::all_fit_write;
 use member::Version;
 use suite::Change;
-use suite::Effect;
 use suite::Frame;
 use suite::Refusal;
 use suite::Survey;
 ghost use mathlib.Core.Path.{_≡_};
-ghost use Prim.Native.Nat.{_<_, _^_, max};
-ghost use lib.ListN.{length};
-ghost use Rattle.suite.specs.Suite.{tiles};
+ghost use Prim.Native.Nat.{max};
 ghost use Rattle.suite.specs.Steps.{putOf, joinOf};
 ghost use Rattle.directory.specs.Lent.{suiteIn, resultIn};
 
@@ -31,7 +29,6 @@ pub(crate) fn put(
     version: u32,
     value: u32,
 ) -> Change
-    requires { ⌜ write < 2 ^ length (tiles (suiteIn frame (now lent))) ⌝ }
     ensures { λ r. ⌜ resultIn frame r (now (lent .exit)) ≡ putOf (suiteIn frame (now (lent .entry))) read write name version value ⌝ }
 {
     if Version::LARGEST <= version {
@@ -39,16 +36,7 @@ pub(crate) fn put(
     }
     if all_fit_write(frame, lent, write, name) {
         let next = version + 1;
-        change(
-            frame,
-            lent,
-            write,
-            Effect::Write {
-                name,
-                version: next,
-                value,
-            },
-        );
+        write_all(frame, lent, write, name, next, value);
         return Change::Done {
             version: next,
             requests: u32::count_ones(read) + u32::count_ones(write),
@@ -66,7 +54,6 @@ pub(crate) fn join(
     version: u32,
     found: Survey,
 ) -> Change
-    requires { ⌜ write < 2 ^ length (tiles (suiteIn frame (now lent))) ⌝ }
     ensures { λ r. ⌜ resultIn frame r (now (lent .exit)) ≡ joinOf (suiteIn frame (now (lent .entry))) read write version found ⌝ }
 {
     let below = found.below;
@@ -77,7 +64,7 @@ pub(crate) fn join(
     }
     if all_fit_coalesce(frame, lent, write, below.end, above.end) {
         let gap = newest + 1;
-        change(frame, lent, write, Effect::Coalesce { below, above, gap });
+        coalesce_all(frame, lent, write, below, above, gap);
         return Change::Done {
             version: gap,
             requests: 2 * u32::count_ones(read) + u32::count_ones(write),

@@ -28,7 +28,6 @@ fn version_of(reading: Reading) -> u32
 
 // The reading with the highest version; on a tie the lowest-numbered member's.
 pub(crate) fn newest(frame: Frame, lent: &[[u32; 130]; 8], set: u32, name: u32) -> Reading
-    requires { ⌜ set < 2 ^ length (tiles (suiteIn frame (now lent))) ⌝ }
     ensures { λ r. ⌜ r ≡ newest (readingAnswers (suiteIn frame (now (lent .entry))) set name) ⌝ }
 {
     let n = places(frame, lent);
@@ -54,14 +53,17 @@ pub(crate) fn newest(frame: Frame, lent: &[[u32; 130]; 8], set: u32, name: u32) 
     got
 }
 
-// Round one, then round two for what it found.
+// Round one, then round two for what it found, in one table after the other.
 pub(crate) fn survey(frame: Frame, lent: &[[u32; 130]; 8], set: u32, name: u32) -> Survey
     requires { ⌜ set < 2 ^ length (tiles (suiteIn frame (now lent))) ⌝ }
     ensures { λ r. ⌜ r ≡ surveyOf (rounds (suiteIn frame (now (lent .entry))) set name) ⌝ }
 {
-    let one = ask_around(frame, lent, set, name);
-    let b = best_row(&one, set, 3, 3);
-    let a = best_row(&one, set, 5, 5);
+    let none = [0u32; 8];
+    let mut table = [none; 8];
+    ask_around(frame, lent, set, name, &mut table);
+    let r = best_row(&table, set, 1, 1);
+    let b = best_row(&table, set, 3, 3);
+    let a = best_row(&table, set, 5, 5);
     let below = Side {
         version: b[3],
         end: b[4],
@@ -70,11 +72,11 @@ pub(crate) fn survey(frame: Frame, lent: &[[u32; 130]; 8], set: u32, name: u32) 
         version: a[5],
         end: a[6],
     };
-    let two = ask_offers(frame, lent, set, name, below, above);
-    let p = best_row(&two, set, 0, 2);
-    let s = best_row(&two, set, 4, 6);
+    ask_offers(frame, lent, set, name, below, above, &mut table);
+    let p = best_row(&table, set, 0, 2);
+    let s = best_row(&table, set, 4, 6);
     Survey {
-        reading: row_reading(best_row(&one, set, 1, 1)),
+        reading: row_reading(r),
         lower: b[3],
         upper: a[5],
         below: Bound {

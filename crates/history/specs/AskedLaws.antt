@@ -4,14 +4,13 @@ use mathlib.Core.List.{List, [], _∷_, _++_}
 use mathlib.Core.Bool.{Bool, true, false, cond}
 use Prim.Native.Nat.{ℕ, zero, suc, _+_, _*_, _/_, _%_, _^_, _<_}
 use native.Mathlib.Omega.{arith}
-use native.Mathlib.Nat.{pow-suc}
 use lib.Arith.{lt-one}
 use lib.Dec.{eqb}
 use borrow.Author.Tests.{eq-eqb, ne-eqb}
 use lib.ListN.{length}
 use Rattle.member.specs.declared.Member.{Member}
 use Rattle.suite.specs.Sets.{chosen, exists}
-use Rattle.suite.specs.SetLaws.{exists-lt}
+use Rattle.suite.specs.SetLaws.{exists-lt, half}
 use Rattle.suite.specs.Suite.{tiles, ballots}
 use Rattle.suite.specs.Calls.{remove, Marked, answerTo, asked, askedOf, predecessor, successor, gapBelowIn, gapAboveIn, roundOne, rounds, answers}
 use Rattle.suite.specs.declared.Suite.{Suite}
@@ -46,9 +45,6 @@ none-named : (i : ℕ) → named 0 i ≡ false
 unfolding named
 none-named zero = refl
 none-named (suc i) = none-named i
-
-half : (n set : ℕ) → set < 2 ^ suc n → set / 2 < 2 ^ n
-half n set h = omega (arith, pow-suc 2 n)
 
 -- each member that the set names is asked once, and no other
 askings-one : (q : Question) (i k : ℕ) (l : List Member) (set : ℕ) → set < 2 ^ length l → askings (k + i) (chosen (asked q k l) set) ≡ flag (named set i)

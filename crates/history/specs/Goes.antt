@@ -37,7 +37,8 @@ passed-zero n o vs = go (eqb n 0) refl
     go true e h = eqb-true n 0 e
     go false e h = not-both vs n (sym h)
 
-first-zero : (a b : ℕ) → first a b ≡ 0 → (a ≡ 0) × (b ≡ 0)
+-- the first refusal is none where both are none
+pub first-zero : (a b : ℕ) → first a b ≡ 0 → (a ≡ 0) × (b ≡ 0)
 first-zero a b = go (eqb a 0) refl
   where
     go : (t : Bool) → eqb a 0 ≡ t → cond t b a ≡ 0 → (a ≡ 0) × (b ≡ 0)

@@ -5,8 +5,10 @@ use Prim.Native.Nat.{ℕ}
 use Rattle.member.specs.Determined.{Determines}
 use Rattle.directory.specs.Lent.{suiteIn}
 use Rattle.directory.specs.Determined.{Tiles, one-suite}
-use Rattle.line.specs.Standing.{answerOf}
-use Rattle.line.specs.Lent.{standingIn, answerIn, freshState}
+use Rattle.text.specs.declared.Reply.{Reply}
+use Rattle.suite.specs.declared.Frame.{Frame}
+use Rattle.line.specs.Standing.{accepted, answerOf}
+use Rattle.line.specs.Lent.{standingIn, answerIn, replyIn, freshState}
 use Rattle.line.specs.declared.State.{State}
 use Rattle.line.specs.declared.Said.{Said}
 
@@ -37,12 +39,18 @@ members-told r r′ l l′ e =
     λ j. record { members = e j .standing .suite .members; votes = f .votes; read = f .read; write = f .write; count = f .count }
 
 -- a contract allows one answer at most, and the cells that a call leaves in lent memory to be one list at most
-abbrev pub Leaves : (Said → List (List ℕ) → Type 0) → Type 0
-Leaves allows =
-    (r r′ : Said) (l l′ : List (List ℕ)) → Tiles l → Tiles l′ → allows r l → allows r′ l′ → (r ≡ r′) × (l ≡ l′)
+abbrev pub Leaves : (A : Type 0) → (A → List (List ℕ) → Type 0) → Type 0
+Leaves A allows =
+    (r r′ : A) (l l′ : List (List ℕ)) → Tiles l → Tiles l′ → allows r l → allows r′ l′ → (r ≡ r′) × (l ≡ l′)
 
-pub answer-unchecked-determined : (state : State) (lent : List (List ℕ)) (line : List ℕ)
-    → Leaves (λ r exit. answerIn r exit ≡ answerOf (standingIn state lent) line)
-answer-unchecked-determined state lent line r r′ l l′ h k p q =
+pub reply-determined : (frame : Frame) (lent : List (List ℕ)) (line : List ℕ)
+    → Leaves Reply (λ r exit. replyIn frame r exit ≡ answerOf (accepted (suiteIn frame lent)) line)
+reply-determined frame lent line r r′ l l′ h k p q =
+    let e = p ∙ sym q in
+    (λ j. e j .reply, one-suite frame l l′ h k (λ j. e j .standing .suite))
+
+pub answer-determined : (state : State) (lent : List (List ℕ)) (line : List ℕ)
+    → Leaves Said (λ r exit. answerIn r exit ≡ answerOf (standingIn state lent) line)
+answer-determined state lent line r r′ l l′ h k p q =
     let e = p ∙ sym q in
     (said-told r r′ l l′ e, one-suite (r .state .frame) l l′ h k (members-told r r′ l l′ e))

@@ -6,8 +6,9 @@ mod reply;
 use suite::Frame;
 use text::Reply;
 ghost use mathlib.Core.Path.{_≡_};
-ghost use Rattle.line.specs.Standing.{answerOf};
-ghost use Rattle.line.specs.Lent.{standingIn, answerIn, freshState};
+ghost use Rattle.directory.specs.Lent.{suiteIn};
+ghost use Rattle.line.specs.Standing.{accepted, answerOf};
+ghost use Rattle.line.specs.Lent.{standingIn, answerIn, replyIn, freshState};
 
 // Whether a suite has been accepted, and all of it but its members, which stand in lent tiles.
 pub struct State {
@@ -36,16 +37,23 @@ impl State {
     }
 }
 
-// The answer to one line, for a holder that knows the suite to be sound: refusal 1 is judged once for many lines.
+// The answer to one line on a suite that was accepted, for a holder that knows it to be sound: refusal 1 is judged once for
+// many lines.
+pub fn reply_unchecked(frame: Frame, lent: &mut [[u32; 130]; 8], line: &[u8]) -> Reply
+    ensures { λ r. ⌜ replyIn frame r (now (lent .exit)) ≡ answerOf (accepted (suiteIn frame (now (lent .entry)))) (now (line .entry)) ⌝ }
+{
+    let command = text::parse(line);
+    commands::carry_out(frame, lent, command)
+}
+
+// The same whether a suite was accepted or not, with the state after it.
 pub fn answer_unchecked(state: State, lent: &mut [[u32; 130]; 8], line: &[u8]) -> Said
     ensures { λ r. ⌜ answerIn r (now (lent .exit)) ≡ answerOf (standingIn state (now (lent .entry))) (now (line .entry)) ⌝ }
 {
-    let parsed = text::parse(line);
     if state.made {
         let frame = state.frame;
-        let command = parsed.command;
-        let reply = commands::carry_out(frame, lent, command);
+        let reply = reply_unchecked(frame, lent, line);
         return Said { reply, state };
     }
-    creation::creation(state, lent, parsed)
+    creation::creation(state, lent, text::ballots(line))
 }

@@ -15,7 +15,7 @@ use Rattle.member.specs.declared.Member.{Member}
 abbrev pub Determines : {A : Type 0} → (A → Type 0) → Type 0
 Determines {A} allows = (r r′ : A) → allows r → allows r′ → r ≡ r′
 
-same : {A : Type 0} (o : A) → Determines (λ r. r ≡ o)
+pub same : {A : Type 0} (o : A) → Determines (λ r. r ≡ o)
 same o r r′ p q = p ∙ sym q
 
 pub fresh-determined : Determines (λ r. r ≡ freshTile)

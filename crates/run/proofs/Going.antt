@@ -13,7 +13,7 @@ use Rattle.suite.specs.Outcome.{answered}
 use Rattle.line.specs.Standing.{Standing, Answer, answerOf}
 use Rattle.run.specs.Course.{linesIn, endIn, Course, Run, holding, between, still, after, runOn}
 use Rattle.run.specs.Lent.{runFrom, reportFrom, placedFrom}
-use Rattle.run.specs.LineLaws.{no-newline, first-line, end-within}
+use Rattle.run.specs.LineLaws.{no-newline, first-line}
 use Rattle.run.specs.RunLaws.{run-stop, run-line, run-last}
 
 -- where the longest answer has room, an answer is printed
@@ -68,124 +68,114 @@ module _ (at written n : ℕ) (text : List ℕ) (r : Run) where
       ∙ sym (λ j. a j ++ (r .said ++ b j))
 
 -- where the run over the lines has come to
-pub record Going (text : List ℕ) (s₀ : Standing) (from : ℕ) (out₀ : List ℕ) (filled : ℕ)
-    (s : Standing) (at : ℕ) (out : List ℕ) (written end : ℕ) : Type 0 where
+pub record Going (text : List ℕ) (s₀ : Standing) (from : ℕ) (out₀ : List ℕ) (filled : ℕ) (s : Standing) (at : ℕ) (out : List ℕ) (written : ℕ) : Type 0 where
   pub place : at ≤ length text
-  pub next : end ≡ at + endIn (drop at text)
   pub room : written ≤ length out
   pub long : length out ≡ length out₀
   pub report : reportFrom at written (runFrom s text at out written) ≡ reportFrom from filled (runFrom s₀ text from out₀ filled)
   pub bytes : placedFrom written (runFrom s text at out written) out ≡ placedFrom filled (runFrom s₀ text from out₀ filled) out₀
 
-pub begin : (text : List ℕ) (s : Standing) (from : ℕ) (out : List ℕ) (filled end : ℕ) → from ≤ length text → filled ≤ length out
-    → end ≡ from + endIn (drop from text) → Going text s from out filled s from out filled end
-begin text s from out filled end h k e = record { place = h; next = e; room = k; long = refl; report = refl; bytes = refl }
+pub begin : (text : List ℕ) (s : Standing) (from : ℕ) (out : List ℕ) (filled : ℕ) → from ≤ length text → filled ≤ length out
+    → Going text s from out filled s from out filled
+begin text s from out filled h k = record { place = h; room = k; long = refl; report = refl; bytes = refl }
 
-module _ {text : List ℕ} {s₀ : Standing} {from : ℕ} {out₀ : List ℕ} {filled : ℕ} {s : Standing} {at : ℕ} {out : List ℕ} {written end : ℕ}
-    (g : Going text s₀ from out₀ filled s at out written end) where
-  pub ends-after : at ≤ end
-  ends-after = omega (arith, g .next)
-
-  pub ends-within : end ≤ length text
-  ends-within = omega (arith, g .next, g .place, end-within (drop at text), length-drop at text)
-
-  -- the line that ends at `end`
-  line-is : end < length text → linesIn (drop at text) ≡ take (end - at) (drop at text) ∷ linesIn (drop (end + 1) text)
-  line-is h =
-      let size : endIn (drop at text) ≡ end - at = omega (arith, g .next) in
-      let short : endIn (drop at text) < length (drop at text) = omega (arith, length-drop at text, g .next, g .place) in
-      let behind : at + (endIn (drop at text) + 1) ≡ end + 1 = omega (arith, g .next) in
-      first-line (drop at text) short
-      ∙ (λ j. take (size j) (drop at text) ∷ linesIn ((drop-drop (endIn (drop at text) + 1) at text ∙ ap (λ (n : ℕ). drop n text) behind) j))
-
-  pub no-room : end < length text → length out - written < 33 → runFrom s text at out written ≡ still (between s)
-  no-room h k = rw (line-is h) (run-stop (length out - written) (between s) (take (end - at) (drop at text)) (drop (end + 1) text) k)
-
-  -- a line has no room for its answer: what is returned is what the whole run comes to
-  pub stopped : end < length text → length out - written < 33 → (c : Course) → c ≡ between s
-      → (record { outcome = answered []; course = c; taken = at; written = written } ≡ reportFrom from filled (runFrom s₀ text from out₀ filled))
-      × (out ≡ placedFrom filled (runFrom s₀ text from out₀ filled) out₀)
-  stopped h k c e =
-      let t : at ≡ at + 0 = omega arith in
-      let w : written ≡ written + 0 = omega arith in (
-        (λ j. record { outcome = answered []; course = e j; taken = t j; written = w j })
-            ∙ ap (reportFrom at written) (sym (no-room h k))
-            ∙ g .report,
-        sym (take-append-drop written out)
-            ∙ ap (λ (n : ℕ). take written out ++ drop n out) w
-            ∙ ap (λ (r : Run). placedFrom written r out) (sym (no-room h k))
-            ∙ g .bytes,
-      )
-
+module _ {text : List ℕ} {s₀ : Standing} {from : ℕ} {out₀ : List ℕ} {filled : ℕ} {s : Standing} {at : ℕ} {out : List ℕ} {written : ℕ}
+    (g : Going text s₀ from out₀ filled s at out written) where
   -- no newline is left, and what is left is held
-  last-piece : length text ≤ end
-      → runFrom s text at out written ≡ record { course = holding (between s) (drop at text); taken = length (drop at text); said = [] }
-  last-piece h =
-      let all : endIn (drop at text) ≡ length (drop at text) = omega (arith, length-drop at text, g .next, ends-within) in
-      rw (no-newline (drop at text) all) (run-last (length out - written) (between s) (drop at text) [])
+  module _ (h : at + endIn (drop at text) ≡ length text) where
+    last-piece : runFrom s text at out written ≡ record { course = holding (between s) (drop at text); taken = length (drop at text); said = [] }
+    last-piece =
+        let all : endIn (drop at text) ≡ length (drop at text) = omega (arith, length-drop at text) in
+        rw (no-newline (drop at text) all) (run-last (length out - written) (between s) (drop at text) [])
 
-  pub exhausted : length text ≤ end → (c : Course) → c ≡ holding (between s) (take (length text - at) (drop at text))
-      → (record { outcome = answered []; course = c; taken = end; written = written } ≡ reportFrom from filled (runFrom s₀ text from out₀ filled))
-      × (out ≡ placedFrom filled (runFrom s₀ text from out₀ filled) out₀)
-  exhausted h c e =
-      let t : end ≡ at + length (drop at text) = omega (arith, length-drop at text, ends-within, g .place) in
-      let w : written ≡ written + 0 = omega arith in
-      let whole : take (length text - at) (drop at text) ≡ drop at text = take-all (length text - at) (drop at text) (omega (arith, length-drop at text)) in
-      let held : c ≡ holding (between s) (drop at text) = e ∙ ap (holding (between s)) whole in (
-        (λ j. record { outcome = answered []; course = held j; taken = t j; written = w j })
-            ∙ ap (reportFrom at written) (sym (last-piece h))
-            ∙ g .report,
-        sym (take-append-drop written out)
-            ∙ ap (λ (n : ℕ). take written out ++ drop n out) w
-            ∙ ap (λ (r : Run). placedFrom written r out) (sym (last-piece h))
-            ∙ g .bytes,
-      )
+    pub exhausted : (c : Course) → c ≡ holding (between s) (take (length text - at) (drop at text))
+        → (record { outcome = answered []; course = c; taken = length text; written = written }
+        ≡ reportFrom from filled (runFrom s₀ text from out₀ filled))
+        × (out ≡ placedFrom filled (runFrom s₀ text from out₀ filled) out₀)
+    exhausted c e =
+        let t : length text ≡ at + length (drop at text) = omega (arith, length-drop at text, g .place) in
+        let w : written ≡ written + 0 = omega arith in
+        let whole : take (length text - at) (drop at text) ≡ drop at text = take-all (length text - at) (drop at text) (omega (arith, length-drop at text)) in
+        let held : c ≡ holding (between s) (drop at text) = e ∙ ap (holding (between s)) whole in (
+          (λ j. record { outcome = answered []; course = held j; taken = t j; written = w j })
+              ∙ ap (reportFrom at written) (sym last-piece)
+              ∙ g .report,
+          sym (take-append-drop written out)
+              ∙ ap (λ (n : ℕ). take written out ++ drop n out) w
+              ∙ ap (λ (r : Run). placedFrom written r out) (sym last-piece)
+              ∙ g .bytes,
+        )
 
-  -- a line is answered
-  module _ (h : end < length text) (k : 33 ≤ length out - written) (a : Answer) (e : a ≡ answerOf s (take (end - at) (drop at text))) where
-    answered-line : runFrom s text at out written
-        ≡ after (end - at + 1) (textOf (a .reply))
-        (runOn (length out - written - length (textOf (a .reply))) (between (a .standing)) (linesIn (drop (end + 1) text)))
-    answered-line =
-        let size : end - at ≡ length (take (end - at) (drop at text)) =
-        sym (length-take-le (end - at) (drop at text) (omega (arith, length-drop at text, ends-within))) in
-        rw (line-is h) (run-line (length out - written) (between s) (take (end - at) (drop at text)) (drop (end + 1) text) k)
-        ∙ sym (λ j. after (size j + 1) (textOf (e j .reply))
-        (runOn (length out - written - length (textOf (e j .reply))) (between (e j .standing)) (linesIn (drop (end + 1) text))))
+  -- a line ends at `end`
+  module _ (end : ℕ) (next : end ≡ at + endIn (drop at text)) (h : end < length text) where
+    line-is : linesIn (drop at text) ≡ take (end - at) (drop at text) ∷ linesIn (drop (end + 1) text)
+    line-is =
+        let size : endIn (drop at text) ≡ end - at = omega arith in
+        let short : endIn (drop at text) < length (drop at text) = omega (arith, length-drop at text) in
+        let behind : at + (endIn (drop at text) + 1) ≡ end + 1 = omega arith in
+        first-line (drop at text) short
+        ∙ (λ j. take (size j) (drop at text) ∷ linesIn ((drop-drop (endIn (drop at text) + 1) at text ∙ ap (λ (n : ℕ). drop n text) behind) j))
 
-    step-on : (end′ : ℕ) → end′ ≡ end + 1 + endIn (drop (end + 1) text)
-        → Going text s₀ from out₀ filled (a .standing) (end + 1) (with-text out written (textOf (a .reply)))
-        (written + length (textOf (a .reply))) end′
-    step-on end′ n =
-        let t : List ℕ = textOf (a .reply) in
-        let fits : written + length t ≤ length out = printed-within out written (a .reply) (omega (arith, g .room)) in
-        let long : length (with-text out written t) ≡ length out = long-as out written t fits in
-        let left : length out - written - length t ≡ length (with-text out written t) - (written + length t) = omega arith in
-        let goes : end - at + 1 + at ≡ end + 1 = omega (arith, ends-after) in
-        let moved : at + (end - at + 1) ≡ end + 1 = omega (arith, ends-after) in
-        let r : Run = runFrom (a .standing) text (end + 1) (with-text out written t) (written + length t) in
-        let whole : runFrom s text at out written ≡ after (end - at + 1) t r =
-        answered-line
-        ∙ ap (λ (m : ℕ). after (end - at + 1) t (runOn m (between (a .standing)) (linesIn (drop (end + 1) text)))) left in
-        record {
-          place = omega arith;
-          next = n;
-          room = omega arith;
-          long = long ∙ g .long;
-          report =
-              ap (λ (m : ℕ). reportFrom m (written + length t) r) (sym moved)
-              ∙ sym (report-on at written (end - at + 1) t r)
-              ∙ ap (reportFrom at written) (sym whole)
-              ∙ g .report;
-          bytes =
-              sym (placed-on at written (end - at + 1) t r out fits)
-              ∙ ap (λ (q : Run). placedFrom written q out) (sym whole)
-              ∙ g .bytes;
-        }
+    -- its answer has no room: what is returned is what the whole run comes to
+    module _ (k : length out - written < 33) where
+      no-room : runFrom s text at out written ≡ still (between s)
+      no-room = rw line-is (run-stop (length out - written) (between s) (take (end - at) (drop at text)) (drop (end + 1) text) k)
 
-    pub step : (out′ : List ℕ) (written′ end′ : ℕ) → written′ ≡ placeAfter (length out) written (textOf (a .reply))
-        → out′ ≡ printed out written (textOf (a .reply)) → end′ ≡ end + 1 + endIn (drop (end + 1) text)
-        → Going text s₀ from out₀ filled (a .standing) (end + 1) out′ written′ end′
-    step out′ written′ end′ w o n =
-        let room : written + 33 ≤ length out = omega (arith, g .room) in
-        rw (o ∙ text-printed out written (a .reply) room, w ∙ place-printed out written (a .reply) room) (step-on end′ n)
+      pub stopped : (c : Course) → c ≡ between s
+          → (record { outcome = answered []; course = c; taken = at; written = written } ≡ reportFrom from filled (runFrom s₀ text from out₀ filled))
+          × (out ≡ placedFrom filled (runFrom s₀ text from out₀ filled) out₀)
+      stopped c e =
+          let t : at ≡ at + 0 = omega arith in
+          let w : written ≡ written + 0 = omega arith in (
+            (λ j. record { outcome = answered []; course = e j; taken = t j; written = w j })
+                ∙ ap (reportFrom at written) (sym no-room)
+                ∙ g .report,
+            sym (take-append-drop written out)
+                ∙ ap (λ (n : ℕ). take written out ++ drop n out) w
+                ∙ ap (λ (r : Run). placedFrom written r out) (sym no-room)
+                ∙ g .bytes,
+          )
+
+    -- it is answered
+    module _ (k : 33 ≤ length out - written) (a : Answer) (e : a ≡ answerOf s (take (end - at) (drop at text))) where
+      answered-line : runFrom s text at out written
+          ≡ after (end - at + 1) (textOf (a .reply))
+          (runOn (length out - written - length (textOf (a .reply))) (between (a .standing)) (linesIn (drop (end + 1) text)))
+      answered-line =
+          let size : end - at ≡ length (take (end - at) (drop at text)) =
+          sym (length-take-le (end - at) (drop at text) (omega (arith, length-drop at text))) in
+          rw line-is (run-line (length out - written) (between s) (take (end - at) (drop at text)) (drop (end + 1) text) k)
+          ∙ sym (λ j. after (size j + 1) (textOf (e j .reply))
+          (runOn (length out - written - length (textOf (e j .reply))) (between (e j .standing)) (linesIn (drop (end + 1) text))))
+
+      step-on : Going text s₀ from out₀ filled (a .standing) (end + 1) (with-text out written (textOf (a .reply))) (written + length (textOf (a .reply)))
+      step-on =
+          let t : List ℕ = textOf (a .reply) in
+          let fits : written + length t ≤ length out = printed-within out written (a .reply) (omega (arith, g .room)) in
+          let long : length (with-text out written t) ≡ length out = long-as out written t fits in
+          let left : length out - written - length t ≡ length (with-text out written t) - (written + length t) = omega arith in
+          let moved : at + (end - at + 1) ≡ end + 1 = omega arith in
+          let r : Run = runFrom (a .standing) text (end + 1) (with-text out written t) (written + length t) in
+          let whole : runFrom s text at out written ≡ after (end - at + 1) t r =
+          answered-line
+          ∙ ap (λ (m : ℕ). after (end - at + 1) t (runOn m (between (a .standing)) (linesIn (drop (end + 1) text)))) left in
+          record {
+            place = omega arith;
+            room = omega arith;
+            long = long ∙ g .long;
+            report =
+                ap (λ (m : ℕ). reportFrom m (written + length t) r) (sym moved)
+                ∙ sym (report-on at written (end - at + 1) t r)
+                ∙ ap (reportFrom at written) (sym whole)
+                ∙ g .report;
+            bytes =
+                sym (placed-on at written (end - at + 1) t r out fits)
+                ∙ ap (λ (q : Run). placedFrom written q out) (sym whole)
+                ∙ g .bytes;
+          }
+
+      pub step : (out′ : List ℕ) (written′ : ℕ) → written′ ≡ placeAfter (length out) written (textOf (a .reply))
+          → out′ ≡ printed out written (textOf (a .reply)) → Going text s₀ from out₀ filled (a .standing) (end + 1) out′ written′
+      step out′ written′ w o =
+          let room : written + 33 ≤ length out = omega (arith, g .room) in
+          rw (o ∙ text-printed out written (a .reply) room, w ∙ place-printed out written (a .reply) room) step-on

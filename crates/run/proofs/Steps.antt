@@ -11,7 +11,7 @@ use Rattle.line.specs.declared.State.{State}
 use Rattle.line.specs.Standing.{Standing, Answer, answerOf}
 use Rattle.line.specs.Lent.{standingIn}
 use Rattle.run.specs.Course.{Course, holding, between}
-use Rattle.run.specs.Lent.{heldIn, courseIn, sessionOf, wentOf, leftBy}
+use Rattle.run.specs.Lent.{heldIn, courseIn, sessionOf, wentOf, leftBy, reportIn}
 use Rattle.run.specs.LongLine.{long-line}
 use Rattle.run.specs.declared.Session.{Session}
 use Rattle.run.specs.declared.Went.{Went}
@@ -70,6 +70,17 @@ hold-tidy r s more e = tidy r (s .state) (take 81 (heldIn s ++ more)) (kept-shor
 pub refused-left : (r : Ran) (old : Session) (f : Refusal) → r ≡ record { went = No f; session = old; taken = 0; written = 0 }
     → r .session ≡ leftBy (r .went) old (r .session)
 refused-left r old f e = rw e
+
+-- a chunk that was run
+module _ (r : Ran) (session : Session) (taken written : ℕ) (e : r ≡ record { went = Well; session = session; taken = taken; written = written }) where
+  pub well-report : (l : List (List ℕ)) → reportIn r l ≡ record { outcome = answered []; course = courseIn session l; taken = taken; written = written }
+  well-report l = ap (λ (q : Ran). reportIn q l) e
+
+  pub well-tidy : session ≡ sessionOf (session .state) (heldIn session) → r .session ≡ sessionOf (r .session .state) (heldIn (r .session))
+  well-tidy h = rw e h
+
+  pub well-kept : (old : Session) → session ≡ sessionOf (session .state) (heldIn session) → r .session ≡ leftBy (r .went) old (r .session)
+  well-kept old h = rw e h
 
 is-well : (w : Went) → wentOf w ≡ answered [] → w ≡ Well
 is-well Well e = refl

@@ -14,7 +14,7 @@ use Rattle.suite.specs.Outcome.{answered, refused}
 use Rattle.line.specs.Standing.{Answer, answerOf}
 use Rattle.run.specs.Course.{newline, linesIn, endIn, Course, Run, Told, holding, between, still, after, runOn, refusal, unsound, runOf, finishOf}
 use Rattle.run.specs.Lent.{Report, runFrom, reportOf, reportFrom, placed, placedFrom}
-use Rattle.run.specs.LineLaws.{first-line, end-within}
+use Rattle.run.specs.LineLaws.{first-line}
 use Rattle.run.specs.RunLaws.{run-line}
 use Rattle.run.specs.ToldLaws.{told-held, told-run}
 use Rattle.run.proofs.Going.{with-text, long-as, report-on, placed-on, place-printed, text-printed, printed-within}
@@ -25,15 +25,12 @@ pub refused-is : (t : Told) (n : ℕ) (c : Course) (out : List ℕ) → t ≡ re
 refused-is t n c out e = (ap reportOf (sym e), ap (λ (q : Told). placed q out) (sym e))
 
 -- no line ends in the chunk
-pub held-is : (c : Course) (text out : List ℕ) (end : ℕ) → unsound (c .standing) ≡ false → end ≡ 0 + endIn text → length text ≤ end
-    → (d : Course) → d ≡ holding c text
-    → (record { outcome = answered []; course = d; taken = end; written = 0 } ≡ reportOf (runOf c text (length out)))
+pub held-is : (c : Course) (text out : List ℕ) → unsound (c .standing) ≡ false → 0 + endIn text ≡ length text → (d : Course) → d ≡ holding c text
+    → (record { outcome = answered []; course = d; taken = length text; written = 0 } ≡ reportOf (runOf c text (length out)))
     × (out ≡ placed (runOf c text (length out)) out)
-held-is c text out end s e h d g =
-    let all : endIn text ≡ length text = omega (arith, end-within text) in
-    let t : end ≡ length text = omega arith in
-    let told = sym (told-held c text (length out) s all) in (
-      (λ j. record { outcome = answered []; course = g j; taken = t j; written = 0 }) ∙ ap reportOf told,
+held-is c text out s e d g =
+    let told = sym (told-held c text (length out) s (omega arith)) in (
+      (λ j. record { outcome = answered []; course = g j; taken = length text; written = 0 }) ∙ ap reportOf told,
       ap (λ (q : Told). placed q out) told,
     )
 

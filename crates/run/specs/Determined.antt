@@ -6,7 +6,8 @@ use lib.ListN.{length}
 use Rattle.suite.specs.Suite.{frameOf}
 use Rattle.suite.specs.Outcome.{numberOf}
 use Rattle.suite.specs.OutcomeLaws.{refused-is, not-both}
-use Rattle.suite.specs.Determined.{Determines, number-tells}
+use Rattle.member.specs.Determined.{Determines}
+use Rattle.suite.specs.Determined.{number-tells}
 use Rattle.suite.specs.declared.Frame.{Frame}
 use Rattle.directory.specs.Lent.{suiteIn}
 use Rattle.line.specs.declared.State.{State}

@@ -50,15 +50,29 @@ impl Session {
     }
 }
 
-// A refused chunk.
-fn refuse(session: Session, refusal: Refusal) -> Ran
-    ensures { λ r. ⌜ r ≡ record { went = Went.No refusal; session = session; taken = 0; written = 0 } ⌝ }
-{
-    Ran {
-        went: Went::No(refusal),
-        session,
-        taken: 0,
-        written: 0,
+impl Ran {
+    // A chunk that was run.
+    pub(crate) fn well(session: Session, taken: usize, written: usize) -> Ran
+        ensures { λ r. ⌜ r ≡ record { went = Went.Well; session = session; taken = taken; written = written } ⌝ }
+    {
+        Ran {
+            went: Went::Well,
+            session,
+            taken,
+            written,
+        }
+    }
+
+    // A refused chunk.
+    fn refused(session: Session, refusal: Refusal) -> Ran
+        ensures { λ r. ⌜ r ≡ record { went = Went.No refusal; session = session; taken = 0; written = 0 } ⌝ }
+    {
+        Ran {
+            went: Went::No(refusal),
+            session,
+            taken: 0,
+            written: 0,
+        }
     }
 }
 
@@ -71,20 +85,15 @@ pub fn run(session: Session, lent: &mut [[u32; 130]; 8], text: &[u8], out: &mut 
 {
     let state = session.state;
     if !lines::is_sound(state, lent) {
-        return refuse(session, Refusal::Unsound);
+        return Ran::refused(session, Refusal::Unsound);
     }
-    let end = lines::line_end(text, 0);
-    if text.len() <= end {
-        return Ran {
-            went: Went::Well,
-            session: session.hold(text),
-            taken: end,
-            written: 0,
-        };
+    if lines::last_end(text) == 0 {
+        return Ran::well(session.hold(text), text.len(), 0);
     }
     if out.len() < Reply::LONGEST {
-        return refuse(session, Refusal::Buffer);
+        return Ran::refused(session, Refusal::Buffer);
     }
+    let end = lines::line_end(text, 0);
     let said = session.ended(lent, &text[..end]);
     let next = said.state;
     let reply = said.reply;
@@ -101,12 +110,7 @@ pub fn finish(session: Session, lent: &mut [[u32; 130]; 8], out: &mut [u8]) -> R
     let held = session.held;
     if held == 0 {
         let state = session.state;
-        return Ran {
-            went: Went::Well,
-            session: Session::idle(state),
-            taken: 0,
-            written: 0,
-        };
+        return Ran::well(Session::idle(state), 0, 0);
     }
     run(session, lent, b"\n", out)
 }

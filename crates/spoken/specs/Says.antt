@@ -8,7 +8,6 @@ use Prim.Native.Nat.{ℕ}
 use native.Mathlib.Omega.{arith}
 use lib.Dec.{ltb, leb, eqb}
 use lib.ListN.{length, take}
-use borrow.Author.Tests.{eqb-true, eqb-false}
 use Rattle.text.specs.Line.{commandOf}
 use Rattle.text.specs.declared.Members.{Members}
 use Rattle.text.specs.declared.Command.{Command}
@@ -33,6 +32,7 @@ use Rattle.history.specs.Run.{Reached, called, applied, follow}
 use Rattle.history.specs.Run as run
 use Rattle.history.specs.Told.{ownRefusal, limitRefusal, first, refusalOf, flag, valuesOf, toldOf}
 use Rattle.history.specs.ToldLaws.{answered-told}
+use Rattle.history.specs.Goes.{first-zero}
 use Rattle.history.specs.Theorems.{faithful, reached-sound}
 use Rattle.spoken.specs.Lines.{fresh, Lined, nothing, suited, toldOn, told, nextOn, next}
 
@@ -88,21 +88,13 @@ Says t d k u e (Absent v) = (rs : Members) × (n : ℕ) × (k ≡ command.Look r
 Says t d k u e (Near p s q) = (rs : Members) × (n : ℕ) × (k ≡ command.Near rs n) × (p ≡ plain.predecessor d n) × (s ≡ plain.successor d n)
 Says t d k u e (Refused n) = (u ≡ t) × (e ≡ d)
 
--- the first refusal is none where both are none
-first-none : (a b : ℕ) → first a b ≡ 0 → (a ≡ 0) × (b ≡ 0)
-first-none a b = go (eqb a 0) refl
-  where
-    go : (t : Bool) → eqb a 0 ≡ t → cond t b a ≡ 0 → (a ≡ 0) × (b ≡ 0)
-    go true h e = (eqb-true a 0 h, e)
-    go false h e = absurd (eqb-false a 0 h e)
-
 is-absent : (a l : ℕ) (t : Bool) → first a (first (cond t 10 0) l) ≡ 0 → t ≡ false
 is-absent a l false e = refl
-is-absent a l true e = absurd (omega (arith, first-none a (first 10 l) e .1))
+is-absent a l true e = absurd (omega (arith, first-zero a (first 10 l) e .1))
 
 is-present : (a l : ℕ) (t : Bool) → first a (first (cond t 0 11) l) ≡ 0 → t ≡ true
 is-present a l true e = refl
-is-present a l false e = absurd (omega (arith, first-none a (first 11 l) e .1))
+is-present a l false e = absurd (omega (arith, first-zero a (first 11 l) e .1))
 
 -- On an accepted suite that is reached.
 module _ {s : Suite} {d : Directory} (p : Reached s d) where

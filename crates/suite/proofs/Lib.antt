@@ -1,4 +1,5 @@
 pub mod Sets
+pub mod SetFolds
 pub mod RowFacts
 pub mod All
 pub mod Used

@@ -6,16 +6,12 @@ use native.Mathlib.Nat.{one-mul}
 use native.Mathlib.Omega.{arith}
 use native.Mathlib.Numerals.{add-one}
 use borrow.Author.Tests.{eq-eqb, ne-eqb}
-use lib.ListN.{length, drop, getD, length-take, length-map, drop-of-length-le}
+use lib.ListN.{length, drop, getD, length-take, drop-of-length-le}
 use lib.Seq.{getD-take, drop-cons}
 use lib.Pow.{shl-exact}
 use Rattle.suite.specs.Sets.{chosen, total, votesOf}
 use Rattle.suite.specs.Suite.{ballotsIn}
 use Rattle.suite.specs.declared.Frame.{Frame}
-
--- an array of structs has its length by its elements' bits
-pub length-of-map : {A B : Type 0} (f : A → B) (l : List A) (n : ℕ) → length (map f l) ≡ n → length l ≡ n
-length-of-map f l n e = sym (length-map l f) ∙ e
 
 -- the place i is named
 pub chosen-named : {A : Type 0} (l : List A) (i : ℕ) (d : A) (set : ℕ) → i < length l → set % 2 ≡ 1

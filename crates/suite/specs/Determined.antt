@@ -3,6 +3,7 @@ use mathlib.Core.Path.{_≡_, refl, sym, ap, _∙_}
 use mathlib.Core.List.{List, [], _∷_}
 use Prim.Native.Nat.{ℕ, _-_, _^_, _≤_}
 use lib.ListN.{length, getD}
+use Rattle.member.specs.Determined.{Determines, same}
 use Rattle.member.specs.declared.Reading.{Reading}
 use Rattle.member.specs.declared.Reading.the-variants.{Entry, Gap}
 use Rattle.member.specs.declared.Around.{Around}
@@ -25,19 +26,12 @@ use Rattle.suite.specs.declared.Creation.the-variants as creation
 use Rattle.suite.specs.declared.Judged.{Judged}
 use Rattle.suite.specs.declared.Judged.the-variants as judged
 
--- a contract allows one outcome at most
-abbrev pub Determines : {A : Type 0} → (A → Type 0) → Type 0
-Determines {A} allows = (r r′ : A) → allows r → allows r′ → r ≡ r′
-
 -- a result is told by the paper's numbers for it
 abbrev pub Tells : {A B : Type 0} → (A → B) → Type 0
 Tells {A} f = (a b : A) → f a ≡ f b → a ≡ b
 
 told : {A B : Type 0} (f : A → B) → Tells f → (o : B) → Determines (λ r. f r ≡ o)
 told f inj o r r′ p q = inj r r′ (p ∙ sym q)
-
-same : {A : Type 0} (o : A) → Determines (λ r. r ≡ o)
-same o r r′ p q = p ∙ sym q
 
 -- What judging comes to, in the order of the numbers.
 judgings : List Judged

@@ -23,7 +23,7 @@ exists-lt votes set e =
     let k : set % 2 ^ length votes < 2 ^ length votes = mod-lt set (pow-pos (length votes)) in
     omega (arith, rw q at (split set (length votes)))
 
-half : (n set : ℕ) → set < 2 ^ suc n → set / 2 < 2 ^ n
+pub half : (n set : ℕ) → set < 2 ^ suc n → set / 2 < 2 ^ n
 half n set h = shr-lt n 1 (rw add-one h)
 
 -- a set names as many members as it has digits set

@@ -4,14 +4,19 @@ use Prim.Native.Nat.{ℕ}
 use mathlib.Core.Path.{_≡_, sym, _∙_}
 use mathlib.Core.List.{List}
 use lib.ListN.{length}
-use Rattle.text.specs.Line.{commandOf}
+use Rattle.text.specs.Line.{commandOf, suiteOf}
 use Rattle.text.specs.Answer.{textOf, placeAfter, printed}
+use Rattle.text.specs.declared.Command.{Command}
 use Rattle.text.specs.declared.Parsed.{Parsed}
 use Rattle.text.specs.declared.Reply.{Reply}
 
--- `parse`: the command with its votes
-pub parse-determined : (line : List ℕ) (r s : Parsed) → r ≡ commandOf line → s ≡ commandOf line → r ≡ s
+-- `parse`: the command
+pub parse-determined : (line : List ℕ) (r s : Command) → r ≡ commandOf line .command → s ≡ commandOf line .command → r ≡ s
 parse-determined line r s p q = p ∙ sym q
+
+-- `ballots`: the command of a `suite` line with its votes
+pub ballots-determined : (line : List ℕ) (r s : Parsed) → r ≡ suiteOf (commandOf line) → s ≡ suiteOf (commandOf line) → r ≡ s
+ballots-determined line r s p q = p ∙ sym q
 
 -- `print`: the place, and the lent bytes, all of them
 pub print-determined : (reply : Reply) (out : List ℕ) (at r s : ℕ) (after after′ : List ℕ)

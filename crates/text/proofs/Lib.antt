@@ -6,6 +6,7 @@ pub mod Sets
 pub mod Arguments
 pub mod Votes
 pub mod Commands
+pub mod Suites
 pub mod Writing
 pub mod Printing
 pub mod Longest

@@ -1,7 +1,7 @@
 -- The numbers that the code reads digit by digit are those that the words write. Assumes nothing.
 use mathlib.Core.Path.{_≡_, refl, _∙_, ap}
 use Prim.Native.Nat.{ℕ, suc, _+_, _-_, _*_, _≤_, _<_}
-use native.Mathlib.Nat.{zero-add, add-zero, add-assoc}
+use native.Mathlib.Nat.{zero-add, add-zero}
 use native.Mathlib.Omega.{arith}
 use mathlib.Core.List.{List, [], _∷_}
 use mathlib.Core.Bool.{Bool, true, false, cond, _&&_}
@@ -46,17 +46,17 @@ pub first-more : (b : ℕ) (l : List ℕ) → (b ≡ 32 → ⊥) → first (b �
 unfolding first
 first-more b l h = rw (ne-eqb b 32 h)
 
-pub on-large : (v at : ℕ) (l : List ℕ) → largest < v → numberOn v at l ≡ Not
+on-large : (v at : ℕ) (l : List ℕ) → largest < v → numberOn v at l ≡ Not
 unfolding numberOn
 on-large v at l h =
     let g = value-grows v (first l) in
     rw (lt-leb (valueFrom v (first l)) largest (omega arith), and-false (decimals (first l)))
 
-on-end : (v at : ℕ) → v ≤ largest → numberOn v at [] ≡ Is v (at + 1)
+on-end : (v at : ℕ) → v ≤ largest → numberOn v at [] ≡ Is v at
 unfolding numberOn first decimals valueFrom
 on-end v at h = rw (le-leb v largest h, add-zero at)
 
-on-space : (v at b : ℕ) (l : List ℕ) → b ≡ 32 → v ≤ largest → numberOn v at (b ∷ l) ≡ Is v (at + 1)
+on-space : (v at b : ℕ) (l : List ℕ) → b ≡ 32 → v ≤ largest → numberOn v at (b ∷ l) ≡ Is v at
 unfolding numberOn first decimals valueFrom
 on-space v at b l e h = rw (eq-eqb b 32 e, le-leb v largest h, add-zero at)
 
@@ -65,7 +65,7 @@ on-digit : (v at b : ℕ) (l : List ℕ) → 48 ≤ b → b < 58
 unfolding numberOn decimals valueFrom
 on-digit v at b l h k = rw (first-more b l (λ e. omega arith), is-digit b h k, past at (length (first l)))
   where
-    past : (a n : ℕ) → a + suc n + 1 ≡ a + 1 + n + 1
+    past : (a n : ℕ) → a + suc n ≡ a + 1 + n
     past a n = omega arith
 
 on-other : (v at b : ℕ) (l : List ℕ) → (b ≡ 32 → ⊥) → isDigit b ≡ false → numberOn v at (b ∷ l) ≡ Not
@@ -78,18 +78,22 @@ module _ (line : List ℕ) (v i : ℕ) (h : i < length line) where
       → numberOn v i (drop i line) ≡ numberOn (v * 10 + (getD line i 0 - 48)) (i + 1) (drop (i + 1) line)
   digit-at a b = ap (numberOn v i) (byte-at line i h) ∙ on-digit v i (getD line i 0) (drop (i + 1) line) a b
 
-  pub space-at : getD line i 0 ≡ 32 → v ≤ largest → numberOn v i (drop i line) ≡ Is v (i + 1)
+  pub large-at : 48 ≤ getD line i 0 → getD line i 0 < 58 → {d : ℕ} → d ≡ getD line i 0 - 48 → largest < v * 10 + d
+      → numberOn v i (drop i line) ≡ Not
+  large-at a b e k = digit-at a b ∙ on-large (v * 10 + (getD line i 0 - 48)) (i + 1) (drop (i + 1) line) (rw e at k)
+
+  pub space-at : getD line i 0 ≡ 32 → v ≤ largest → numberOn v i (drop i line) ≡ Is v i
   space-at e k = ap (numberOn v i) (byte-at line i h) ∙ on-space v i (getD line i 0) (drop (i + 1) line) e k
 
   pub other-at : (getD line i 0 ≡ 32 → ⊥) → isDigit (getD line i 0) ≡ false → numberOn v i (drop i line) ≡ Not
   other-at e k = ap (numberOn v i) (byte-at line i h) ∙ on-other v i (getD line i 0) (drop (i + 1) line) e k
 
-pub end-at : (line : List ℕ) (v i : ℕ) → length line ≤ i → v ≤ largest → numberOn v i (drop i line) ≡ Is v (i + 1)
+pub end-at : (line : List ℕ) (v i : ℕ) → length line ≤ i → v ≤ largest → numberOn v i (drop i line) ≡ Is v i
 end-at line v i h k = ap (numberOn v i) (drop-of-length-le line h) ∙ on-end v i k
 
 -- the number of the first word of l, at a place
 unfoldable pub numberHere : ℕ → List ℕ → Number
-numberHere at l = asNumber (foundThen (numeral (first l)) (at + length (first l) + 1))
+numberHere at l = asNumber (foundThen (numeral (first l)) (at + length (first l)))
 
 pushed : (t : Bool) (n p : ℕ) → asNumber (foundThen (cond t (some n) none) p) ≡ cond t (Is n p) Not
 unfolding asNumber foundThen
@@ -127,16 +131,16 @@ here-digit at b l h n k =
       past at (length (first l)),
     )
   where
-    past : (a n : ℕ) → a + suc n + 1 ≡ a + 1 + n + 1
+    past : (a n : ℕ) → a + suc n ≡ a + 1 + n
     past a n = omega arith
 
 -- a zero stands alone
-pub here-zero : (at b : ℕ) (l : List ℕ) → b ≡ 48 → numberHere at (b ∷ l) ≡ cond (empty (first l)) (Is 0 (at + 2)) Not
+pub here-zero : (at b : ℕ) (l : List ℕ) → b ≡ 48 → numberHere at (b ∷ l) ≡ cond (empty (first l)) (Is 0 (at + 1)) Not
 unfolding numberHere numeral unpadded decimals isDigit valueFrom asNumber foundThen empty largest
 here-zero at b l e = rw (e, first-more 48 l (λ q. omega arith)) (then (first l))
   where
-    then : (w : List ℕ) → asNumber (foundThen (numeral (48 ∷ w)) (at + length (48 ∷ w) + 1)) ≡ cond (empty w) (Is 0 (at + 2)) Not
-    then [] = ap (Is 0) (add-assoc at 1 1)
+    then : (w : List ℕ) → asNumber (foundThen (numeral (48 ∷ w)) (at + length (48 ∷ w))) ≡ cond (empty w) (Is 0 (at + 1)) Not
+    then [] = refl
     then (c ∷ w) = refl
 
 -- any other byte begins no number

@@ -87,15 +87,15 @@ first-within (b ∷ l) = go (eqb b 32) (first-within l)
     go false h = omega arith
 
 -- what a word that was read at a place says of the words from there on
-pub record Step {A : Type 0} (read : List ℕ → Option A) (line : List ℕ) (at : ℕ) (a : A) (next : ℕ) : Type 0 where
-  pub beyond : at < next
-  pub within : next ≤ length line + 1
-  pub goes : (f : A → List (List ℕ) → Parsed) → withWord read (wordsFrom line at) f ≡ f a (wordsFrom line next)
+pub record Step {A : Type 0} (read : List ℕ → Option A) (line : List ℕ) (at : ℕ) (a : A) (end : ℕ) : Type 0 where
+  pub beyond : at ≤ end
+  pub within : end ≤ length line
+  pub goes : (f : A → List (List ℕ) → Parsed) → withWord read (wordsFrom line at) f ≡ f a (wordsFrom line (end + 1))
 
 module _ {A : Type 0} (read : List ℕ → Option A) (line : List ℕ) (at : ℕ) where
   -- what is found at a place within the line
   pub found-within : at ≤ length line
-      → foundAt read line at ≡ foundThen (read (first (drop at line))) (at + length (first (drop at line)) + 1)
+      → foundAt read line at ≡ foundThen (read (first (drop at line))) (at + length (first (drop at line)))
   unfolding foundAt foundIn
   found-within h = rw (from-within line at h)
 
@@ -103,16 +103,16 @@ module _ {A : Type 0} (read : List ℕ → Option A) (line : List ℕ) (at : ℕ
   unfolding foundAt foundIn
   found-past h = rw (from-past line at h)
 
-  pub stepped : (a : A) (next : ℕ) → foundAt read line at ≡ it a next → Step read line at a next
+  pub stepped : (a : A) (end : ℕ) → foundAt read line at ≡ it a end → Step read line at a end
   unfolding foundThen withWord given
-  stepped a next e = place (leb at (length line)) refl
+  stepped a end e = place (leb at (length line)) refl
     where
       word : at ≤ length line → (o : Option A) → read (first (drop at line)) ≡ o
-          → foundThen o (at + length (first (drop at line)) + 1) ≡ it a next → Step read line at a next
+          → foundThen o (at + length (first (drop at line))) ≡ it a end → Step read line at a end
       word h none p q = absurd (let z : _≡_ {A = ℕ} 0 1 = cc in omega arith)
       word h (some b) p q =
           let same : b ≡ a = cc in
-          let then : at + length (first (drop at line)) + 1 ≡ next = cc in
+          let then : at + length (first (drop at line)) ≡ end = cc in
           let short : length (first (drop at line)) ≤ length line - at = rw length-drop at (first-within (drop at line)) in
           record {
             beyond = omega arith;
@@ -120,7 +120,7 @@ module _ {A : Type 0} (read : List ℕ → Option A) (line : List ℕ) (at : ℕ
             goes = λ f. rw (from-within line at h, p, same, next-word line at h, then);
           }
 
-      place : (t : Bool) → leb at (length line) ≡ t → Step read line at a next
+      place : (t : Bool) → leb at (length line) ≡ t → Step read line at a end
       place true t = word (leb-true at (length line) t) (read (first (drop at line))) refl (sym (found-within (leb-true at (length line) t)) ∙ e)
       place false t = absurd (let z : _≡_ {A = ℕ} 0 1 = cc (found-past (leb-false at (length line) t)) in omega arith)
 
@@ -129,7 +129,7 @@ module _ {A : Type 0} (read : List ℕ → Option A) (line : List ℕ) (at : ℕ
   stopped e f = place (leb at (length line)) refl
     where
       word : at ≤ length line → (o : Option A) → read (first (drop at line)) ≡ o
-          → foundThen o (at + length (first (drop at line)) + 1) ≡ nothing → withWord read (wordsFrom line at) f ≡ notUnderstood
+          → foundThen o (at + length (first (drop at line))) ≡ nothing → withWord read (wordsFrom line at) f ≡ notUnderstood
       word h none p q = rw (from-within line at h, p)
       word h (some b) p q = absurd (let z : _≡_ {A = ℕ} 0 1 = cc in omega arith)
 

@@ -1,7 +1,7 @@
 -- What the code finds at a place of a line, a number or a set, is what the word there writes. Assumes nothing.
 use mathlib.Core.Path.{_≡_, refl, _∙_, ap}
 use Prim.Native.Nat.{ℕ, _+_, _≤_, _<_}
-use native.Mathlib.Nat.{le-of-lt, add-assoc}
+use native.Mathlib.Nat.{le-of-lt}
 use native.Mathlib.Omega.{arith}
 use mathlib.Core.List.{List, [], _∷_}
 use mathlib.Core.Bool.{Bool, true, false, cond}
@@ -49,10 +49,10 @@ ends-byte line at h = rw (byte-at line at h) (go (eqb (getD line at 0) 32))
 
 -- a zero stands alone
 pub zero-at : (line : List ℕ) (at : ℕ) → at < length line → getD line at 0 ≡ 48 → (t : Bool) → endsAt line (at + 1) ≡ t
-    → numberAt line at ≡ cond t (number.Is 0 (at + 2)) number.Not
+    → numberAt line at ≡ cond t (number.Is 0 (at + 1)) number.Not
 unfolding endsAt
 zero-at line at h e t q =
-    number-byte line at h ∙ (here-zero at (getD line at 0) (drop (at + 1) line) e ∙ ap (λ (u : Bool). cond u (number.Is 0 (at + 2)) number.Not) q)
+    number-byte line at h ∙ (here-zero at (getD line at 0) (drop (at + 1) line) e ∙ ap (λ (u : Bool). cond u (number.Is 0 (at + 1)) number.Not) q)
 
 -- whether the word is `-`
 same-empty : (w : List ℕ) → same w [] ≡ empty w
@@ -91,21 +91,21 @@ dash-length [] e = absurd (let z : _≡_ {A = ℕ} 0 1 = cc in omega arith)
 dash-length (b ∷ []) e = refl
 dash-length (b ∷ c ∷ w) e = absurd (let z : _≡_ {A = ℕ} 0 1 = cc (and-false (eqb b 45)) in omega arith)
 
-pub everyone-at : (line : List ℕ) (at : ℕ) → dashAt line at ≡ true → setAt line at ≡ set.Is Everyone (at + 2)
+pub everyone-at : (line : List ℕ) (at : ℕ) → dashAt line at ≡ true → setAt line at ≡ set.Is Everyone (at + 1)
 unfolding dashAt argument asSet foundThen
 everyone-at line at e =
     ap asSet (found-within argument line at (le-of-lt (dash-within line at e)))
-    ∙ rw (e, dash-length (first (drop at line)) e, add-assoc at 1 1)
+    ∙ rw (e, dash-length (first (drop at line)) e)
 
 -- where the word is not `-`, a set is found as its number is
 onlyOf : Found ℕ → Found Members
-onlyOf (it n next) = it (Only n) next
+onlyOf (it n end) = it (Only n) end
 onlyOf nothing = nothing
 
-only-found : (o : Option ℕ) (next : ℕ) → foundThen (only o) next ≡ onlyOf (foundThen o next)
+only-found : (o : Option ℕ) (end : ℕ) → foundThen (only o) end ≡ onlyOf (foundThen o end)
 unfolding foundThen only onlyOf
-only-found none next = refl
-only-found (some n) next = refl
+only-found none end = refl
+only-found (some n) end = refl
 
 found-only : (line : List ℕ) (at : ℕ) → dashAt line at ≡ false → foundAt argument line at ≡ onlyOf (foundAt numeral line at)
 unfolding dashAt argument onlyOf
@@ -114,32 +114,32 @@ found-only line at e = go (leb at (length line)) refl
     go : (t : Bool) → leb at (length line) ≡ t → foundAt argument line at ≡ onlyOf (foundAt numeral line at)
     go true q =
         let h = leb-true at (length line) q in
-        rw (found-within argument line at h, found-within numeral line at h, e) (only-found (numeral (first (drop at line))) (at + length (first (drop at line)) + 1))
+        rw (found-within argument line at h, found-within numeral line at h, e) (only-found (numeral (first (drop at line))) (at + length (first (drop at line))))
     go false q = let h = leb-false at (length line) q in rw (found-past argument line at h, found-past numeral line at h)
 
-pub number-found : (f : Found ℕ) (n next : ℕ) → number.Is n next ≡ asNumber f → f ≡ it n next
+pub number-found : (f : Found ℕ) (n end : ℕ) → number.Is n end ≡ asNumber f → f ≡ it n end
 unfolding asNumber
-number-found (it m p) n next e = cc
-number-found nothing n next e = cc
+number-found (it m p) n end e = cc
+number-found nothing n end e = cc
 
 pub number-none : (f : Found ℕ) → number.Not ≡ asNumber f → f ≡ nothing
 unfolding asNumber
 number-none (it m p) e = cc
 number-none nothing e = refl
 
-pub only-at : (line : List ℕ) (at n next : ℕ) → dashAt line at ≡ false → number.Is n next ≡ numberAt line at
-    → setAt line at ≡ set.Is (Only n) next
+pub only-at : (line : List ℕ) (at n end : ℕ) → dashAt line at ≡ false → number.Is n end ≡ numberAt line at
+    → setAt line at ≡ set.Is (Only n) end
 unfolding asSet onlyOf
-only-at line at n next e q = rw (found-only line at e, number-found (foundAt numeral line at) n next q)
+only-at line at n end e q = rw (found-only line at e, number-found (foundAt numeral line at) n end q)
 
 pub none-at : (line : List ℕ) (at : ℕ) → dashAt line at ≡ false → number.Not ≡ numberAt line at → setAt line at ≡ set.Not
 unfolding asSet onlyOf
 none-at line at e q = rw (found-only line at e, number-none (foundAt numeral line at) q)
 
-pub set-found : (f : Found Members) (m : Members) (next : ℕ) → set.Is m next ≡ asSet f → f ≡ it m next
+pub set-found : (f : Found Members) (m : Members) (end : ℕ) → set.Is m end ≡ asSet f → f ≡ it m end
 unfolding asSet
-set-found (it m′ p) m next e = cc
-set-found nothing m next e = cc
+set-found (it m′ p) m end e = cc
+set-found nothing m end e = cc
 
 pub set-none : (f : Found Members) → set.Not ≡ asSet f → f ≡ nothing
 unfolding asSet

@@ -57,9 +57,9 @@ module _ (r w : ℕ) (line votes : List ℕ) (count next : ℕ) where
   unfolding collected withWord
   votes-word h = rw (from-within line next h)
 
-  pub votes-go : next ≤ length line → {n after : ℕ} → Step numeral line next n after
-      → collected r w votes count (wordsFrom line next) ≡ collected r w (set votes count n) (count + 1) (wordsFrom line after)
-  votes-go h s = votes-word h ∙ rw add-one (s .goes (λ n ws. collected r w (set votes count n) (suc count) ws))
+  pub votes-go : next ≤ length line → {n end : ℕ} → Step numeral line next n end
+      → collected r w votes count (wordsFrom line next) ≡ collected r w (set votes count n) (count + 1) (wordsFrom line (end + 1))
+  votes-go h s = votes-word h ∙ rw (add-one count) (s .goes (λ n ws. collected r w (set votes count n) (suc count) ws))
 
   pub votes-stop : next ≤ length line
       → ((f : ℕ → List (List ℕ) → Parsed) → withNumber (wordsFrom line next) f ≡ notUnderstood)

@@ -1,4 +1,5 @@
 pub mod Words
 pub mod Line
 pub mod Scan
+pub mod Kinds
 pub mod Answer

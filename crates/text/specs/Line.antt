@@ -98,3 +98,16 @@ longestLine = 80
 
 unfoldable pub commandOf : List ℕ → Parsed
 commandOf line = cond (leb (length line) longestLine) (commandWith (words line)) notUnderstood
+
+-- a line that is asked for its votes: where it is no `suite` line it counts as not understood
+unfoldable pub suiteBy : Command → Parsed → Parsed
+suiteBy (Suite r w) p = p
+suiteBy (Look s k) p = notUnderstood
+suiteBy (Near s k) p = notUnderstood
+suiteBy (Insert s t k v) p = notUnderstood
+suiteBy (Update s t k v) p = notUnderstood
+suiteBy (Remove s t k) p = notUnderstood
+suiteBy NotUnderstood p = notUnderstood
+
+unfoldable pub suiteOf : Parsed → Parsed
+suiteOf p = suiteBy (p .command) p

@@ -1,4 +1,4 @@
--- How the code goes along a line: by the places where its words begin. The place behind the last word is one past the line's end.
+-- How the code goes along a line: by the places where its words begin, each one past the end of the word before it.
 use Prim.Native.Nat.{ℕ, suc, _+_}
 use mathlib.Core.List.{List, [], _∷_}
 use mathlib.Core.Bool.{Bool, true, false, _&&_, cond}
@@ -40,29 +40,29 @@ endsAt line at = empty (first (drop at line))
 unfoldable pub dashAt : List ℕ → ℕ → Bool
 dashAt line at = same (first (drop at line)) (ascii "-")
 
--- what is read in the word at a place, with the place of the next word; or there is nothing to read so, or no word
+-- what is read in the word at a place, with where the word ends; or there is nothing to read so, or no word
 pub data Found (A : Type 0) : Type 0 where
   it : A → ℕ → Found A
   nothing : Found A
 
 unfoldable pub foundThen : {A : Type 0} → Option A → ℕ → Found A
-foundThen none next = nothing
-foundThen (some a) next = it a next
+foundThen none end = nothing
+foundThen (some a) end = it a end
 
 unfoldable pub foundIn : {A : Type 0} → (List ℕ → Option A) → ℕ → List (List ℕ) → Found A
 foundIn read at [] = nothing
-foundIn read at (w ∷ ws) = foundThen (read w) (at + length w + 1)
+foundIn read at (w ∷ ws) = foundThen (read w) (at + length w)
 
 unfoldable pub foundAt : {A : Type 0} → (List ℕ → Option A) → List ℕ → ℕ → Found A
 foundAt read line at = foundIn read at (wordsFrom line at)
 
 -- the number there, and the set there
 unfoldable pub asNumber : Found ℕ → Number
-asNumber (it n next) = number.Is n next
+asNumber (it n end) = number.Is n end
 asNumber nothing = number.Not
 
 unfoldable pub asSet : Found Members → Set
-asSet (it m next) = set.Is m next
+asSet (it m end) = set.Is m end
 asSet nothing = set.Not
 
 abbrev pub numberAt : List ℕ → ℕ → Number
@@ -75,5 +75,5 @@ setAt line at = asSet (foundAt argument line at)
 unfoldable pub numberOn : ℕ → ℕ → List ℕ → Number
 numberOn v at l =
     cond (decimals (first l) && leb (valueFrom v (first l)) largest)
-    (number.Is (valueFrom v (first l)) (at + length (first l) + 1))
+    (number.Is (valueFrom v (first l)) (at + length (first l)))
     number.Not

@@ -1,5 +1,6 @@
 // The commands and their arguments, one after another.
 use crate::Command;
+use crate::Members;
 use crate::Parsed;
 use crate::scan;
 use crate::scan::Number;
@@ -8,160 +9,187 @@ ghost use mathlib.Core.Path.{_≡_};
 ghost use mathlib.Core.Bool.{cond};
 ghost use Prim.Native.Nat.{_+_, _≤_};
 ghost use lib.ListN.{length, take};
-ghost use Rattle.text.specs.Line.{commandIn, reading, changing, removing, creating, voting};
+ghost use Rattle.text.specs.Line.{reading, creating, voting, withNothing};
 ghost use Rattle.text.specs.Scan.{wordsFrom};
+ghost use Rattle.text.specs.Kinds.{Worded, kindOf, commandFor, changeFor};
 ghost use Rattle.text.specs.declared.Command.the-variants as command;
 
-// The command whose word is the first `end` bytes, with its arguments behind the space there.
-pub(crate) fn command_in(line: &[u8], end: usize) -> Parsed
-    requires { ⌜ end ≤ length (now line) ⌝ }
-    ensures { λ r. ⌜ r ≡ commandIn (take end (now (line .entry))) (wordsFrom (now (line .entry)) (end + 1)) ⌝ }
+// What a command's word says of its arguments.
+pub(crate) enum Kind {
+    Read { near: bool },
+    Change(Change),
+    Suite,
+    Other,
+}
+
+pub(crate) enum Change {
+    Put { update: bool },
+    Remove,
+}
+
+// Where the command's word ends, at a space; for a line of another form 0, where no command's word ends.
+pub(crate) fn word_end(line: &[u8]) -> usize
+    ensures { λ r. ⌜ Worded (now (line .entry)) r ⌝ }
 {
-    let word = &line[..end];
-    let at = end + 1;
+    if Command::LONGEST < line.len() {
+        return 0;
+    }
+    let end = scan::letters(line);
+    if line.len() <= end {
+        return 0;
+    }
+    if line[end] != b' ' {
+        return 0;
+    }
+    end
+}
+
+fn kind_of(word: &[u8]) -> Kind
+    ensures { λ r. ⌜ r ≡ kindOf (now (word .entry)) ⌝ }
+{
     if scan::same(word, b"look") {
-        return reading(line, at, false);
+        return Kind::Read { near: false };
     }
     if scan::same(word, b"near") {
-        return reading(line, at, true);
+        return Kind::Read { near: true };
     }
     if scan::same(word, b"ins") {
-        return changing(line, at, false);
+        return Kind::Change(Change::Put { update: false });
     }
     if scan::same(word, b"upd") {
-        return changing(line, at, true);
+        return Kind::Change(Change::Put { update: true });
     }
     if scan::same(word, b"del") {
-        return removing(line, at);
+        return Kind::Change(Change::Remove);
     }
     if scan::same(word, b"suite") {
-        return creating(line, at);
+        return Kind::Suite;
     }
-    Parsed::alone(Command::NotUnderstood)
+    Kind::Other
+}
+
+// The command whose word is the first `end` bytes, with its arguments behind the space there. Each function below has one caller, so that all of
+// them become one piece of code.
+pub(crate) fn command_in(line: &[u8], end: usize) -> Command
+    requires { ⌜ end ≤ length (now line) ⌝ }
+    ensures { λ r. ⌜ r ≡ commandFor (kindOf (take end (now (line .entry)))) (wordsFrom (now (line .entry)) (end + 1)) .command ⌝ }
+{
+    let kind = kind_of(&line[..end]);
+    let at = end + 1;
+    match kind {
+        Kind::Read { near } => reading(line, at, near),
+        Kind::Change(change) => changing(line, at, change),
+        Kind::Suite => {
+            let parsed = creating(line, at);
+            parsed.command
+        }
+        Kind::Other => Command::NotUnderstood,
+    }
 }
 
 // The arguments `S K` of `near` or of `look`.
-fn reading(line: &[u8], at: usize, near: bool) -> Parsed
-    ensures { λ r. ⌜ r ≡ reading (cond near command.Near command.Look) (wordsFrom (now (line .entry)) at) ⌝ }
+fn reading(line: &[u8], at: usize, near: bool) -> Command
+    ensures { λ r. ⌜ r ≡ reading (cond near command.Near command.Look) (wordsFrom (now (line .entry)) at) .command ⌝ }
 {
-    let Set::Is {
-        members: read,
-        next,
-    } = scan::set_at(line, at)
-    else {
-        return Parsed::alone(Command::NotUnderstood);
+    let Set::Is { members: read, end } = scan::set_at(line, at) else {
+        return Command::NotUnderstood;
     };
     let Number::Is {
         value: name,
-        next: end,
-    } = scan::number_at(line, next)
+        end: last,
+    } = scan::number_at(line, end + 1)
     else {
-        return Parsed::alone(Command::NotUnderstood);
+        return Command::NotUnderstood;
     };
-    if end <= line.len() {
-        return Parsed::alone(Command::NotUnderstood);
+    if last < line.len() {
+        return Command::NotUnderstood;
     }
     if near {
-        Parsed::alone(Command::Near { read, name })
+        Command::Near { read, name }
     } else {
-        Parsed::alone(Command::Look { read, name })
+        Command::Look { read, name }
     }
 }
 
-// The arguments `S T K V` of `upd` or of `ins`.
-fn changing(line: &[u8], at: usize, update: bool) -> Parsed
-    ensures { λ r. ⌜ r ≡ changing (cond update command.Update command.Insert) (wordsFrom (now (line .entry)) at) ⌝ }
+// The arguments `S T K` of a change, and the value `V` of `upd` or of `ins`.
+fn changing(line: &[u8], at: usize, change: Change) -> Command
+    ensures { λ r. ⌜ r ≡ changeFor change (wordsFrom (now (line .entry)) at) .command ⌝ }
 {
-    let Set::Is {
-        members: read,
-        next,
-    } = scan::set_at(line, at)
-    else {
-        return Parsed::alone(Command::NotUnderstood);
+    let Set::Is { members: read, end } = scan::set_at(line, at) else {
+        return Command::NotUnderstood;
     };
     let Set::Is {
         members: write,
-        next: third,
-    } = scan::set_at(line, next)
+        end: second,
+    } = scan::set_at(line, end + 1)
     else {
-        return Parsed::alone(Command::NotUnderstood);
+        return Command::NotUnderstood;
     };
     let Number::Is {
         value: name,
-        next: fourth,
-    } = scan::number_at(line, third)
+        end: third,
+    } = scan::number_at(line, second + 1)
     else {
-        return Parsed::alone(Command::NotUnderstood);
+        return Command::NotUnderstood;
     };
-    let Number::Is { value, next: end } = scan::number_at(line, fourth) else {
-        return Parsed::alone(Command::NotUnderstood);
+    let Change::Put { update } = change else {
+        return removed(line, third, read, write, name);
     };
-    if end <= line.len() {
-        return Parsed::alone(Command::NotUnderstood);
+    let Number::Is { value, end: last } = scan::number_at(line, third + 1) else {
+        return Command::NotUnderstood;
+    };
+    if last < line.len() {
+        return Command::NotUnderstood;
     }
+    put(update, read, write, name, value)
+}
+
+// `del` has no more arguments.
+fn removed(line: &[u8], end: usize, read: Members, write: Members, name: u32) -> Command
+    ensures { λ r. ⌜ r ≡ withNothing (wordsFrom (now (line .entry)) (end + 1)) (command.Remove read write name) .command ⌝ }
+{
+    if end < line.len() {
+        return Command::NotUnderstood;
+    }
+    Command::Remove { read, write, name }
+}
+
+// `upd` or `ins`.
+fn put(update: bool, read: Members, write: Members, name: u32, value: u32) -> Command
+    ensures { λ r. ⌜ r ≡ cond update command.Update command.Insert read write name value ⌝ }
+{
     if update {
-        Parsed::alone(Command::Update {
+        Command::Update {
             read,
             write,
             name,
             value,
-        })
+        }
     } else {
-        Parsed::alone(Command::Insert {
+        Command::Insert {
             read,
             write,
             name,
             value,
-        })
+        }
     }
-}
-
-// The arguments `S T K` of `del`.
-fn removing(line: &[u8], at: usize) -> Parsed
-    ensures { λ r. ⌜ r ≡ removing (wordsFrom (now (line .entry)) at) ⌝ }
-{
-    let Set::Is {
-        members: read,
-        next,
-    } = scan::set_at(line, at)
-    else {
-        return Parsed::alone(Command::NotUnderstood);
-    };
-    let Set::Is {
-        members: write,
-        next: third,
-    } = scan::set_at(line, next)
-    else {
-        return Parsed::alone(Command::NotUnderstood);
-    };
-    let Number::Is {
-        value: name,
-        next: end,
-    } = scan::number_at(line, third)
-    else {
-        return Parsed::alone(Command::NotUnderstood);
-    };
-    if end <= line.len() {
-        return Parsed::alone(Command::NotUnderstood);
-    }
-    Parsed::alone(Command::Remove { read, write, name })
 }
 
 // The arguments `R W votes..` of `suite`.
-fn creating(line: &[u8], at: usize) -> Parsed
+pub(crate) fn creating(line: &[u8], at: usize) -> Parsed
     ensures { λ r. ⌜ r ≡ creating (wordsFrom (now (line .entry)) at) ⌝ }
 {
-    let Number::Is { value: read, next } = scan::number_at(line, at) else {
+    let Number::Is { value: read, end } = scan::number_at(line, at) else {
         return Parsed::alone(Command::NotUnderstood);
     };
     let Number::Is {
         value: write,
-        next: votes,
-    } = scan::number_at(line, next)
+        end: last,
+    } = scan::number_at(line, end + 1)
     else {
         return Parsed::alone(Command::NotUnderstood);
     };
-    voting(line, votes, read, write)
+    voting(line, last + 1, read, write)
 }
 
 // The votes, to the end of the line.
@@ -172,14 +200,14 @@ fn voting(line: &[u8], at: usize, read: u32, write: u32) -> Parsed
     let mut count: usize = 0;
     let mut next = at;
     while next <= line.len() {
-        let Number::Is { value, next: after } = scan::number_at(line, next) else {
+        let Number::Is { value, end } = scan::number_at(line, next) else {
             return Parsed::alone(Command::NotUnderstood);
         };
         if count < Parsed::VOTES {
             votes[count] = value;
         }
         count += 1;
-        next = after;
+        next = end + 1;
     }
     Parsed {
         command: Command::Suite { read, write },

@@ -5,7 +5,7 @@ mod write;
 
 ghost use mathlib.Core.Path.{_≡_};
 ghost use lib.ListN.{length};
-ghost use Rattle.text.specs.Line.{commandOf, alone};
+ghost use Rattle.text.specs.Line.{commandOf, alone, suiteOf};
 ghost use Rattle.text.specs.Answer.{textOf, placeAfter, printed};
 
 // A set of members as a line gives it: `-` is everyone.
@@ -76,20 +76,22 @@ impl Parsed {
 }
 
 // The command that a line gives, `NotUnderstood` for a line of any other form.
-pub fn parse(line: &[u8]) -> Parsed
-    ensures { λ r. ⌜ r ≡ commandOf (now (line .entry)) ⌝ }
+pub fn parse(line: &[u8]) -> Command
+    ensures { λ r. ⌜ r ≡ commandOf (now (line .entry)) .command ⌝ }
 {
-    if Command::LONGEST < line.len() {
-        return Parsed::alone(Command::NotUnderstood);
-    }
-    let end = scan::letters(line);
-    if line.len() <= end {
-        return Parsed::alone(Command::NotUnderstood);
-    }
-    if line[end] != b' ' {
-        return Parsed::alone(Command::NotUnderstood);
-    }
+    let end = grammar::word_end(line);
     grammar::command_in(line, end)
+}
+
+// The command of a `suite` line with its votes; any other line is not understood here. The room for votes is only made where it is asked for.
+pub fn ballots(line: &[u8]) -> Parsed
+    ensures { λ r. ⌜ r ≡ suiteOf (commandOf (now (line .entry))) ⌝ }
+{
+    let end = grammar::word_end(line);
+    if scan::same(&line[..end], b"suite") {
+        return grammar::creating(line, end + 1);
+    }
+    Parsed::alone(Command::NotUnderstood)
 }
 
 // What a line is answered.

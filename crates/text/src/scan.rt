@@ -3,12 +3,12 @@ use crate::Members;
 ghost use mathlib.Core.Path.{_≡_};
 ghost use Prim.Native.Nat.{_≤_};
 ghost use lib.ListN.{length, drop};
-ghost use Rattle.text.specs.Words.{same};
+ghost use Rattle.text.specs.Words.{same, largest};
 ghost use Rattle.text.specs.Scan.{lettersOf, endsAt, dashAt, numberOn, numberAt, setAt};
 
-// The number that the word at a place writes, with the place of the next word; or the word writes none, or there is no word.
+// The number that the word at a place writes, with where the word ends; or the word writes none, or there is no word.
 pub(crate) enum Number {
-    Is { value: u32, next: usize },
+    Is { value: u32, end: usize },
     Not,
 }
 
@@ -18,7 +18,7 @@ impl Number {
 
 // The same for a word that may be `-`.
 pub(crate) enum Set {
-    Is { members: Members, next: usize },
+    Is { members: Members, end: usize },
     Not,
 }
 
@@ -84,15 +84,15 @@ pub(crate) fn set_at(line: &[u8], at: usize) -> Set
     if dash_at(line, at) {
         return Set::Is {
             members: Members::Everyone,
-            next: at + 2,
+            end: at + 1,
         };
     }
-    let Number::Is { value, next } = number_at(line, at) else {
+    let Number::Is { value, end } = number_at(line, at) else {
         return Set::Not;
     };
     Set::Is {
         members: Members::Only(value),
-        next,
+        end,
     }
 }
 
@@ -110,7 +110,7 @@ pub(crate) fn number_at(line: &[u8], at: usize) -> Number
             if ends_at(line, at + 1) {
                 Number::Is {
                     value: 0,
-                    next: at + 2,
+                    end: at + 1,
                 }
             } else {
                 Number::Not
@@ -122,34 +122,35 @@ pub(crate) fn number_at(line: &[u8], at: usize) -> Number
 
 // The number whose digits go on at `at`, after digits that come to `value`.
 fn digits(line: &[u8], at: usize, value: u64) -> Number
-    requires { ⌜ at ≤ length (now line) ⌝ }
+    requires { ⌜ (at ≤ length (now line)) × (value ≤ largest) ⌝ }
     ensures { λ r. ⌜ r ≡ numberOn value at (drop at (now (line .entry))) ⌝ }
 {
     let mut v = value;
     let mut i = at;
-    while i < line.len() {
-        if Number::LARGEST < v {
-            return Number::Not;
-        }
+    while i != line.len() {
         let b = line[i];
         match b {
             b'0'..=b'9' => {
                 v = v * 10 + wide(b - b'0');
+                if Number::LARGEST < v {
+                    return Number::Not;
+                }
                 i += 1;
             }
-            b' ' => return Number::Is {
-                value: v as u32,
-                next: i + 1,
-            },
-            _ => return Number::Not,
+            _ => {
+                if b == b' ' {
+                    return Number::Is {
+                        value: v as u32,
+                        end: i,
+                    };
+                }
+                return Number::Not;
+            }
         }
-    }
-    if Number::LARGEST < v {
-        return Number::Not;
     }
     Number::Is {
         value: v as u32,
-        next: i + 1,
+        end: i,
     }
 }
 

@@ -5,6 +5,7 @@ pub mod ChangeSteps
 pub mod ChangeWrites
 pub mod RemovalSteps
 pub mod RowsAdded
+pub mod SearchHalves
 pub mod SoundSteps
 pub mod StoreSteps
 pub mod Stores

@@ -1,17 +1,18 @@
 -- A coalescing as the code makes it: the rows past s moved to their place, then the rows of p and s put in front of them.
 use mathlib.Core.Path.{_≡_, ap, sym, _∙_}
-use mathlib.Core.List.{List, _++_, append-assoc}
+use mathlib.Core.Bool.{Bool, true, false, cond, _&&_}
+use mathlib.Core.List.{List, [], _∷_, _++_, append-assoc}
 use Prim.Native.Nat.{ℕ, _+_, _-_, _≤_, _<_}
 use native.Mathlib.Omega.{arith}
 use borrow.Author.Tests.{le-leb, lt-leb, lt-ltb, le-ltb, ne-eqb, eq-eqb}
-use lib.Dec.{leb}
+use lib.Dec.{leb, ltb}
 use lib.ListN.{length, take, drop, length-append}
 use lib.Seq.{sets}
 use Rattle.member.specs.Limits.{slots, high}
 use Rattle.member.specs.Tile.{entries, holding}
 use Rattle.member.specs.Search.{belowEnd, pastEnd, gapBelow}
 use Rattle.member.specs.Change.{rowWith, lowSet, coalesced, coalesceOf, fitsCoalesce}
-use Rattle.member.specs.SearchLaws.{endCut, below-le-length, past-le-length}
+use Rattle.member.specs.SearchLaws.{endCut, endBefore, below-le-length, below-le-past, past-le, past-le-length}
 use Rattle.member.specs.EndLaws.{endRow}
 use Rattle.member.specs.Normal.{coalesced-is}
 use Rattle.member.specs.CoalesceLaws.{length-endRow, coalesce-fits, coalesce-full}
@@ -56,6 +57,27 @@ module _ {m : Member} {p s k i j x y : ℕ} (a : Asked m p s k i j x y) where
   -- how many entries there are then
   pub room : leb (i + x + y + (k - j)) slots ≡ fitsCoalesce m p s
   room = fits-sum m p s (a .order) (i + x + y + (k - j)) (omega (arith, past-within))
+
+own-le : (e : ℕ) → own e ≤ 1
+unfolding endRow
+own-le e = go (ltb 0 e && ltb e high)
+  where
+    go : (b : Bool) → length (cond b (rowWith (e - 1) 0 0 0 ∷ []) []) ≤ 1
+    go true = omega arith
+    go false = omega arith
+
+-- both ends added and nothing dropped is the worst there is
+pub fits-two : (m : Member) (p s n : ℕ) → p < s → n ≡ length (entries m) → n + 2 ≤ slots → true ≡ fitsCoalesce m p s
+fits-two m p s n h e k =
+    let l = entries m in
+    let a = below-le-past (endCut p) l in
+    let b = past-le (endCut p) (endCut s) (endBefore p s h) l in
+    let c = below-le-past (endCut s) l in
+    let d = past-le-length (endCut s) l in
+    let x = own-le p in
+    let y = own-le s in
+    let t = belowEnd l p + own p + own s + (n - pastEnd l s) in
+    sym (le-leb t slots (omega arith)) ∙ fits-sum m p s h t (omega arith)
 
 module _ (m : Member) (P S : Bound) (g : ℕ) {k i j x y : ℕ} (a : Asked m (P .end) (S .end) k i j x y) where
   pub coalesce-over : slots < i + x + y + (k - j) → m ≡ coalesceOf m P S g

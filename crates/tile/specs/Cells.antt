@@ -1,4 +1,5 @@
--- A member with one row, its lowest gap or its count replaced, and with its entries moved: what the code stores at a time.
+-- A member with one row, its lowest gap or its count replaced, and with its entries moved: what the code stores at a time. And one
+-- half of its places, which the code searches at a time.
 use mathlib.Core.List.{_++_}
 use Prim.Native.Nat.{ℕ, _+_, _-_}
 use lib.ListN.{length, take, drop, replicate, set}
@@ -41,3 +42,7 @@ own e = length (endRow (bare e) 0)
 -- the row of an end in place i, and the version of the gap above the end
 abbrev pub endPut : Member → ℕ → Bound → ℕ → Member
 endPut m i b g = record { low = lowSet (m .low) (b .end) g; count = m .count; rows = sets (m .rows) i (endRow b g) }
+
+-- 16 places from place i on, as a member that uses them all
+abbrev pub halfFrom : Member → ℕ → Member
+halfFrom m i = record { low = m .low; count = 16; rows = drop i (m .rows) }

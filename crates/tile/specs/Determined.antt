@@ -12,7 +12,9 @@ use Rattle.member.specs.Sound.{soundMember}
 use Rattle.member.specs.Determined.{Determines}
 use Rattle.member.specs.declared.Row.{Row}
 use Rattle.member.specs.declared.Bound.{Bound}
+use Rattle.member.specs.declared.Side.{Side}
 use Rattle.member.specs.declared.Member.{Member}
+use Rattle.tile.specs.declared.rounds.Offered.{Offered}
 use Rattle.tile.specs.Lent.{rowAt, rowsIn, tileIn}
 
 -- a row's cells, and what follows them
@@ -90,11 +92,14 @@ module _ (tile : List ℕ) where
   pub around-determined : (name : ℕ) → Determines (λ r. r ≡ aroundOf (tileIn tile) name)
   around-determined name = same (aroundOf (tileIn tile) name)
 
-  pub offer-below-determined : (name k v : ℕ) → Determines (λ r. r ≡ offerBelowOf (tileIn tile) name k v)
-  offer-below-determined name k v = same (offerBelowOf (tileIn tile) name k v)
-
-  pub offer-above-determined : (name k v : ℕ) → Determines (λ r. r ≡ offerAboveOf (tileIn tile) name k v)
-  offer-above-determined name k v = same (offerAboveOf (tileIn tile) name k v)
+  pub offers-determined : (name : ℕ) (below above : Side) → Determines (λ (r : Offered). r ≡ record {
+    below = offerBelowOf (tileIn tile) name (below .end) (below .version);
+    above = offerAboveOf (tileIn tile) name (above .end) (above .version);
+  })
+  offers-determined name below above = same (record {
+    below = offerBelowOf (tileIn tile) name (below .end) (below .version);
+    above = offerAboveOf (tileIn tile) name (above .end) (above .version);
+  })
 
   pub write-determined : (name version value : ℕ) → Leaves (λ exit. tileIn exit ≡ writeOf (tileIn tile) name version value)
   write-determined name version value = left (writeOf (tileIn tile) name version value)

@@ -3,10 +3,17 @@ use member::Member;
 use member::Row;
 ghost use mathlib.Core.Path.{_≡_};
 ghost use Prim.Native.Nat.{_≤_, _<_};
-ghost use lib.ListN.{length, getD, set};
+ghost use lib.ListN.{length, getD};
 ghost use Rattle.member.specs.Tile.{none, entries};
 ghost use Rattle.tile.specs.Lent.{tileIn};
 ghost use Rattle.tile.specs.Cells.{withRow, withLow, withCount};
+
+// The count as it stands there.
+pub(crate) fn count(tile: &[u32; 130]) -> u32
+    ensures { λ r. ⌜ r ≡ tileIn (now (tile .entry)) .count ⌝ }
+{
+    tile[0]
+}
 
 // How many entries there are; a count past the last place counts as all places.
 pub(crate) fn used(tile: &[u32; 130]) -> usize

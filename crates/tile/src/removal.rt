@@ -55,7 +55,8 @@ fn put_end(tile: &mut [u32; 130], at: usize, b: Bound, gap: u32)
     );
 }
 
-// Would coalescing p..s leave at most 32 entries? Those below p and above s stay, and p and s are there.
+// Would coalescing p..s leave at most 32 entries? Those below p and above s stay, and p and s are there: at most two more than
+// before.
 pub fn fits_coalesce(tile: &[u32; 130], p: u32, s: u32) -> bool
     ensures { λ r. ⌜ r ≡ fitsCoalesce (tileIn (now (tile .entry))) p s ⌝ }
 {
@@ -63,6 +64,9 @@ pub fn fits_coalesce(tile: &[u32; 130], p: u32, s: u32) -> bool
         return true;
     }
     let n = used(tile);
+    if n + 2 <= Member::SLOTS {
+        return true;
+    }
     let from = below_end(tile, p);
     let to = past_end(tile, s);
     let mid = from + rows_of(p);

@@ -15,6 +15,8 @@ use member::Row;
 use member::Side;
 use member::end_of;
 ghost use mathlib.Core.Path.{_≡_};
+ghost use Rattle.member.specs.Tile.{entries};
+ghost use Rattle.member.specs.Search.{seatIn};
 ghost use Rattle.member.specs.Rounds.{aroundOf, offered, offerOf, bareOffer, offerBelowOf, offerAboveOf};
 ghost use Rattle.tile.specs.Lent.{tileIn};
 
@@ -75,11 +77,13 @@ fn offer_end(end: u32, k: u32) -> Offer
     Offer::Nothing
 }
 
-// Round two below: the greatest entry from k up to but not the name that is k itself or has a version above v.
-pub fn offer_below(tile: &[u32; 130], name: u32, k: u32, v: u32) -> Offer
+// Round two below: the greatest entry from k up to but not the name that is k itself or has a version above v, for a name that has
+// `at` entries below it.
+fn offer_below(tile: &[u32; 130], at: usize, name: u32, k: u32, v: u32) -> Offer
+    requires { ⌜ at ≡ seatIn (entries (tileIn (now tile))) name ⌝ }
     ensures { λ r. ⌜ r ≡ offerBelowOf (tileIn (now (tile .entry))) name k v ⌝ }
 {
-    let mut i = seat(tile, name);
+    let mut i = at;
     while 0 < i {
         i -= 1;
         let here = row(tile, i);
@@ -91,11 +95,12 @@ pub fn offer_below(tile: &[u32; 130], name: u32, k: u32, v: u32) -> Offer
 }
 
 // Round two above: the least entry from k down to but not the name that is k itself or has a version above v.
-pub fn offer_above(tile: &[u32; 130], name: u32, k: u32, v: u32) -> Offer
+fn offer_above(tile: &[u32; 130], at: usize, name: u32, k: u32, v: u32) -> Offer
+    requires { ⌜ at ≡ seatIn (entries (tileIn (now tile))) name ⌝ }
     ensures { λ r. ⌜ r ≡ offerAboveOf (tileIn (now (tile .entry))) name k v ⌝ }
 {
     let n = used(tile);
-    let mut i = next(tile, seat(tile, name), name);
+    let mut i = next(tile, at, name);
     while i < n {
         let here = row(tile, i);
         if is_offered(here, k, end_of(here.name) < k, v) {
@@ -104,4 +109,24 @@ pub fn offer_above(tile: &[u32; 130], name: u32, k: u32, v: u32) -> Offer
         i += 1;
     }
     offer_end(Name::HIGH, k)
+}
+
+// What a tile offers in round two.
+pub struct Offered {
+    pub below: Offer,
+    pub above: Offer,
+}
+
+// Round two, for the gaps that round one found next below and next above the name.
+pub fn offers(tile: &[u32; 130], name: u32, below: Side, above: Side) -> Offered
+    ensures { λ r. ⌜ r ≡ record {
+      below = offerBelowOf (tileIn (now (tile .entry))) name (below .end) (below .version);
+      above = offerAboveOf (tileIn (now (tile .entry))) name (above .end) (above .version);
+    } ⌝ }
+{
+    let at = seat(tile, name);
+    Offered {
+        below: offer_below(tile, at, name, below.end, below.version),
+        above: offer_above(tile, at, name, above.end, above.version),
+    }
 }

@@ -1,6 +1,7 @@
 // What the image layer needs of a tile: its rows one after another, and a tile built up of rows.
 use crate::cells::lowest_gap;
 use crate::cells::put_count;
+use crate::cells::put_lowest_gap;
 use crate::cells::put_row;
 use crate::cells::row;
 use crate::cells::used;
@@ -45,7 +46,7 @@ pub fn empty(tile: &mut [u32; 130], gap: u32)
     ensures { λ _. ⌜ tileIn (now (tile .exit)) ≡ emptyTile gap ⌝ }
 {
     *tile = [0u32; 130];
-    tile[1] = gap;
+    put_lowest_gap(tile, gap);
 }
 
 // A row added above the last. Where it does not go there, the tile as it was.

@@ -5,26 +5,49 @@ use crate::cells::used;
 use member::Name;
 use member::end_of;
 ghost use mathlib.Core.Path.{_≡_};
-ghost use Prim.Native.Nat.{_≤_};
+ghost use Prim.Native.Nat.{_≤_, _+_};
 ghost use lib.ListN.{length};
 ghost use Rattle.member.specs.Tile.{entries};
 ghost use Rattle.member.specs.Search.{seatIn, nextIn, belowEnd, pastEnd, gapBelow, endBelow, endAt};
 ghost use Rattle.tile.specs.Lent.{tileIn};
+ghost use Rattle.tile.specs.Cells.{halfFrom};
 
 // How many entries stand below the name: the place where it is, or where it would go.
 pub(crate) fn seat(tile: &[u32; 130], name: u32) -> usize
     ensures { λ r. ⌜ r ≡ seatIn (entries (tileIn (now (tile .entry)))) name ⌝ }
 {
     let n = used(tile);
-    let mut i = 0;
-    while i < n {
-        let here = row(tile, i);
-        if name <= here.name {
-            return i;
-        }
-        i += 1;
+    let at = place(tile, name);
+    if at < n { at } else { n }
+}
+
+// The same among all places, whether they are used or not.
+fn place(tile: &[u32; 130], name: u32) -> usize
+    ensures { λ r. ⌜ r ≡ seatIn (tileIn (now (tile .entry)) .rows) name ⌝ }
+{
+    let at = place_from(tile, 0, name);
+    if at < 16 {
+        return at;
     }
-    i
+    place_from(tile, 16, name)
+}
+
+// The same among the 16 places from `from` on. They are looked at one and all, from the last down, which takes no jump: the jump out of
+// a search that stops where it has found its place is one that a processor cannot foretell, and costs more than the places left.
+fn place_from(tile: &[u32; 130], from: usize, name: u32) -> usize
+    requires { ⌜ from ≤ 16 ⌝ }
+    ensures { λ r. ⌜ r ≡ from + seatIn (entries (halfFrom (tileIn (now (tile .entry))) from)) name ⌝ }
+{
+    let mut at = 16;
+    let mut i = 16;
+    while 0 < i {
+        i -= 1;
+        let here = row(tile, from + i);
+        if name <= here.name {
+            at = i;
+        }
+    }
+    from + at
 }
 
 // How many entries stand at or below the name, for one that has `at` entries below it.

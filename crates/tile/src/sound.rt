@@ -1,9 +1,9 @@
 // Is a tile sound: its entries ascend strictly, all ranges are kept, at most 32 places are used, unused places hold zero.
+use crate::cells::count;
 use crate::cells::lowest_gap;
 use crate::cells::row;
 use crate::cells::used;
 use member::Member;
-use member::Row;
 use member::Version;
 use member::in_range;
 use member::is_none;
@@ -52,7 +52,7 @@ fn rest_is_none(tile: &[u32; 130]) -> bool
 pub fn is_sound(tile: &[u32; 130]) -> bool
     ensures { λ r. ⌜ r ≡ soundMember (tileIn (now (tile .entry))) ⌝ }
 {
-    if 32 < tile[0] {
+    if 32 < count(tile) {
         return false;
     }
     if Version::LARGEST < lowest_gap(tile) {

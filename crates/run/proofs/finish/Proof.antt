@@ -8,7 +8,7 @@ use borrow.Author.Needs.{needs}
 use Rattle.suite.specs.Outcome.{answered}
 use Rattle.run.specs.Course.{Told}
 use Rattle.run.specs.Lent.{courseIn, reportOf, placed}
-use Rattle.run.proofs.Steps.{idle-tidy, nothing-held}
+use Rattle.run.proofs.Steps.{idle-tidy, nothing-held, well-report, well-kept}
 use Rattle.run.proofs.Whole.{none-left, some-left}
 use Rattle.run.proofs.finish.Statement.{statement}
 use Rattle.run.proofs.finish.Tie as tie
@@ -16,16 +16,22 @@ use Rattle.run.proofs.finish.Tie as tie
 idle-requires : tie.Need-idle-requires
 idle-requires c κs = search needs
 
+well-requires : tie.Need-well-requires
+well-requires c κs = search needs
+
 returns : tie.Need-returns
 returns c =
-    let i = c .before .before in
+    let q = c .before in
+    let i = q .before .before in
     let a = i .before .before .args in
     let course = courseIn (a .session) (a .lent .now) in
-    let same = nothing-held (a .lent .now) _ (a .session) (c .idle .ensures) (i .if1 .taken) in
+    let same = nothing-held (a .lent .now) _ (a .session) (q .idle .ensures) (i .if1 .taken) in
     let none : length (take (a .session .held) (a .session .line)) ≡ 0 = omega (arith, length-take (a .session .held) (a .session .line), i .if1 .taken) in
     let told = sym (none-left course (length (a .out .now)) none) in (
-      (λ j. record { outcome = answered []; course = same j; taken = 0; written = 0 }) ∙ ap reportOf told,
-      (ap (λ (t : Told). placed t (a .out .now)) told, idle-tidy _ _ (c .idle .ensures)),
+      well-report _ _ _ _ (c .well .ensures) (a .lent .now)
+          ∙ (λ j. record { outcome = answered []; course = same j; taken = 0; written = 0 })
+          ∙ ap reportOf told,
+      (ap (λ (t : Told). placed t (a .out .now)) told, well-kept _ _ _ _ (c .well .ensures) (a .session) (idle-tidy _ _ (q .idle .ensures))),
     )
 
 line-size : (c : tie.Start) → length (c .args .session .line) ≡ 81
@@ -53,4 +59,4 @@ returns-2 c =
     (q .run .ensures .0 ∙ ap reportOf told, (q .run .ensures .1 .0 ∙ ap (λ (t : Told). placed t (a .out .now)) told, q .run .ensures .1 .1))
 
 pub finish-spec : {M : Type 1} → statement M
-finish-spec = tie.close (tie.spec idle-requires returns slice-aggregate-run run-requires same-length returns-2)
+finish-spec = tie.close (tie.spec idle-requires well-requires returns slice-aggregate-run run-requires same-length returns-2)

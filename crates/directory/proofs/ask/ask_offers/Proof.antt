@@ -19,22 +19,22 @@ use Rattle.directory.proofs.ask.ask_offers.Statement.{statement}
 use Rattle.directory.proofs.ask.ask_offers.Tie as tie
 
 abbrev Inv-loop : tie.InvT-loop
-Inv-loop lent set name below above n table₀ left₀ i₀ table left i =
+Inv-loop lent set name below above table₀ n left₀ i₀ table left i =
     (n ≡ length (tiles (firstIn n lent)))
     × (n ≤ 8)
     × (i ≤ n)
     × Asked (λ m. rowOf (answerTo (question.Offers name below above) m)) (firstIn n lent) set table left i
 
 abbrev μ-loop : tie.MeasureT-loop
-μ-loop lent set name below above n table₀ left₀ i₀ table left i = n - i
+μ-loop lent set name below above table₀ n left₀ i₀ table left i = n - i
 
 places-requires : tie.Need-places-requires Inv-loop μ-loop
 places-requires c κs = search needs
 
 loop-holds : tie.Need-loop-holds Inv-loop μ-loop
 loop-holds c =
-    let a = c .before .args in
-    let n = c .places in (
+    let a = c .before .before .args in
+    let n = c .before .places in (
       first-length (a .frame) (now (a .lent)) (n .result) (n .ensures .1 .0),
       n .ensures .1 .1,
       omega arith,
@@ -50,11 +50,11 @@ index-1-offers c = omega arith
 offers-requires : tie.Need-offers-requires Inv-loop μ-loop
 offers-requires c κs = search needs
 
-mul-table : tie.Need-mul-table Inv-loop μ-loop
-mul-table c = omega arith
+mul-t19 : tie.Need-mul-t19 Inv-loop μ-loop
+mul-t19 c = omega arith
 
-array-set-from-table : tie.Need-array-set-from-table Inv-loop μ-loop
-array-set-from-table c = omega arith
+element-set-from-table : tie.Need-element-set-from-table Inv-loop μ-loop
+element-set-from-table c = omega arith
 
 add-i : tie.Need-add-i Inv-loop μ-loop
 add-i c = omega arith
@@ -64,10 +64,10 @@ loop-less c = omega arith
 
 loop-again : tie.Need-loop-again Inv-loop μ-loop
 loop-again c =
-    let a = c .before .before .before .before .args in
+    let a = c .before .before .before .before .before .args in
     let row : Member → List ℕ = λ m. rowOf (answerTo (question.Offers (a .name) (a .below) (a .above)) m) in
     let l = now (a .lent) in
-    let n = c .before .before .before .places .result in
+    let n = c .before .before .before .before .places .result in
     let k = c .before .before .loop in
     let inv = k .inv in
     let h : k .i < length (tiles (firstIn n l)) = omega arith in
@@ -79,9 +79,9 @@ loop-again c =
 
 returns : tie.Need-returns Inv-loop μ-loop
 returns c =
-    let a = c .before .before .before .args in
+    let a = c .before .before .before .before .args in
     let row : Member → List ℕ = λ m. rowOf (answerTo (question.Offers (a .name) (a .below) (a .above)) m) in
-    let n = c .before .before .places in
+    let n = c .before .before .before .places in
     let k = c .before .loop in
     row-end row (a .frame) (n .result) (now (a .lent)) (a .set) (k .table) (k .left) (k .i) (n .ensures .1 .0) (omega arith) (k .inv .3)
 
@@ -96,8 +96,8 @@ ask-offers-spec =
     mul-offers
     index-1-offers
     offers-requires
-    mul-table
-    array-set-from-table
+    mul-t19
+    element-set-from-table
     add-i
     loop-less
     loop-again

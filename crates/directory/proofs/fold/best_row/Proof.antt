@@ -10,8 +10,7 @@ use lib.ListN.{length, drop}
 use Rattle.suite.specs.Sets.{chosen}
 use Rattle.suite.specs.Best.{best}
 use Rattle.suite.specs.Rows.{beatsAt, noRow}
-use Rattle.suite.proofs.RowFacts.{bestOn}
-use Rattle.directory.proofs.SetFolds.{best-past}
+use Rattle.suite.proofs.SetFolds.{bestOn, best-past}
 use Rattle.directory.proofs.RowFolds.{held, row-weighed, row-first, row-passed, row-none}
 use Rattle.directory.proofs.fold.best_row.Statement.{statement}
 use Rattle.directory.proofs.fold.best_row.Tie as tie

@@ -35,16 +35,16 @@ all-fit-coalesce-requires c κs = search needs
 add-gap : tie.Need-add-gap
 add-gap c = search needs
 
-change-requires : tie.Need-change-requires
-change-requires c κs = search needs
+coalesce-all-requires : tie.Need-coalesce-all-requires
+coalesce-all-requires c κs = search needs
 
-mul-t20 : tie.Need-mul-t20
-mul-t20 c =
+mul-t19 : tie.Need-mul-t19
+mul-t19 c =
     let s = c .before .before .before .before .before .before .before .before .before .before in
     omega (arith, ones-le 32 (s .args .read) (s .fits .read .fits))
 
-add-t22 : tie.Need-add-t22
-add-t22 c =
+add-t21 : tie.Need-add-t21
+add-t21 c =
     let s = c .before .before .before .before .before .before .before .before .before .before in
     omega (arith, ones-le 32 (s .args .read) (s .fits .read .fits), ones-le 32 (s .args .write) (s .fits .write .fits))
 
@@ -60,7 +60,7 @@ returns-2 c =
     let fit = question.FitsCoalesce (found .below .end) (found .above .end) in
     let e = effect.Coalesce (found .below) (found .above) v in
     done (a .frame) (a .lent .now) (a .write) v (2 * ones (a .read) + ones (a .write)) fit e (omega arith)
-    (t .all-fit-coalesce .result) (t .all-fit-coalesce .ensures) (c .before .before .if2 .taken) (c .change .last .1 .0) (c .change .ensures)
+    (t .all-fit-coalesce .result) (t .all-fit-coalesce .ensures) (c .before .before .if2 .taken) (c .coalesce-all .last .1 .0) (c .coalesce-all .ensures)
     ∙ joined (suiteIn (a .frame) (a .lent .now)) (a .read) (a .write) (a .version) found (g .greater .result) (n .result) (g .greater .ensures) (n .ensures)
 
 returns-3 : tie.Need-returns-3
@@ -87,8 +87,8 @@ join-spec =
     returns
     all-fit-coalesce-requires
     add-gap
-    change-requires
-    mul-t20
-    add-t22
+    coalesce-all-requires
+    mul-t19
+    add-t21
     returns-2
     returns-3)

@@ -22,11 +22,11 @@ all-fit-write-requires c κs = search needs
 add-next : tie.Need-add-next
 add-next c = search needs
 
-change-requires : tie.Need-change-requires
-change-requires c κs = search needs
+write-all-requires : tie.Need-write-all-requires
+write-all-requires c κs = search needs
 
-add-t18 : tie.Need-add-t18
-add-t18 c =
+add-t17 : tie.Need-add-t17
+add-t17 c =
     let s = c .before .before .before .before .before .before in
     omega (arith, ones-le 32 (s .args .read) (s .fits .read .fits), ones-le 32 (s .args .write) (s .fits .write .fits))
 
@@ -39,7 +39,7 @@ returns-2 c =
     let q = ones (a .read) + ones (a .write) in
     done (a .frame) (a .lent .now) (a .write) v q (question.FitsWrite (a .name)) (effect.Write (a .name) v (a .value)) (omega arith)
     (t .all-fit-write .result) (t .all-fit-write .ensures)
-    (c .before .before .if2 .taken) (c .change .last .1 .0) (c .change .ensures)
+    (c .before .before .if2 .taken) (c .write-all .last .1 .0) (c .write-all .ensures)
 
 returns-3 : tie.Need-returns-3
 returns-3 c =
@@ -59,7 +59,7 @@ put-spec =
     returns
     all-fit-write-requires
     add-next
-    change-requires
-    add-t18
+    write-all-requires
+    add-t17
     returns-2
     returns-3)

@@ -12,7 +12,7 @@ use Rattle.suite.specs.Best.{best}
 use Rattle.suite.specs.Sets.{chosen}
 use Rattle.suite.specs.Suite.{tiles}
 use Rattle.suite.specs.Calls.{newer}
-use Rattle.suite.proofs.RowFacts.{bestOn}
+use Rattle.suite.proofs.SetFolds.{bestOn}
 use Rattle.directory.proofs.AskPlaces.{firstIn, first-length}
 use Rattle.directory.proofs.AskFolds.{readings, is-newer, not-newer, newest-weighed, newest-first, newest-passed, newest-end, newest-in}
 use Rattle.directory.proofs.rounds.newest.Statement.{statement}

@@ -33,7 +33,7 @@ passes c =
     passed (a .frame) (a .lent .now) 0 (a .name) 0 (a .set) 0 (j .result) (c .enum-told .given .1) (j .ensures)
 
 newest-requires : tie.Need-newest-requires
-newest-requires c κs = passes c .reads
+newest-requires c κs = search needs
 
 returns-2 : tie.Need-returns-2
 returns-2 c =

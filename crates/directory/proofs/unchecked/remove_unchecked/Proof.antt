@@ -48,7 +48,7 @@ returns-2 c =
     remove-new (passes (c .before .before .before .before)) (found .result) (found .ensures) (c .enum-told2 .given .1)
 
 join-requires : tie.Need-join-requires
-join-requires c κs = passes (c .before .before .before .before .before .before) .writes
+join-requires c κs = search needs
 
 returns-3 : tie.Need-returns-3
 returns-3 c =

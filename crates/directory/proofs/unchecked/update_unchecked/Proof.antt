@@ -34,7 +34,7 @@ passes c =
     (j .result) (c .enum-told .given .1) (j .ensures)
 
 newest-requires : tie.Need-newest-requires
-newest-requires c κs = passes (c .before) .reads
+newest-requires c κs = search needs
 
 enum-known-reading : tie.Need-enum-known-reading
 enum-known-reading c = search needs
@@ -48,7 +48,7 @@ returns-2 c =
     update-new (passes (c .before .before .before .before)) (n .result) (n .ensures) (c .enum-told2 .given .1)
 
 put-requires : tie.Need-put-requires
-put-requires c κs = passes (c .before .before .before .before .before .before) .writes
+put-requires c κs = search needs
 
 returns-3 : tie.Need-returns-3
 returns-3 c =

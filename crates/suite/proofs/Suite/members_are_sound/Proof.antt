@@ -12,7 +12,7 @@ use Rattle.member.specs.Sound.{soundMember}
 use Rattle.member.specs.declared.Member.{Member}
 use Rattle.suite.specs.Sets.{all}
 use Rattle.suite.specs.Suite.{tiles, isFresh}
-use Rattle.suite.proofs.Sets.{length-of-map}
+use Rattle.member.proofs.Rows.{length-of-map}
 use Rattle.suite.proofs.Used.{usedFrom, used-from, used-end, tested-here}
 use Rattle.suite.proofs.Suite.members_are_sound.Statement.{statement}
 use Rattle.suite.proofs.Suite.members_are_sound.Tie as tie

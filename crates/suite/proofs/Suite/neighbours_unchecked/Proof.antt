@@ -5,7 +5,7 @@ use lib.Count.{ones-le}
 use lib.ListN.{length}
 use Rattle.suite.specs.Accepted.{one-vote-each, judged-fine}
 use Rattle.suite.specs.Suite.{ballots, tiles}
-use Rattle.suite.proofs.Sets.{length-of-map}
+use Rattle.member.proofs.Rows.{length-of-map}
 use Rattle.suite.specs.Calls.{judged}
 use Rattle.suite.proofs.Calling.{within, fine-is, neighbours-no, neighbours-done}
 use borrow.Author.Needs.{needs}

@@ -3,7 +3,7 @@ use mathlib.Core.Path.{_≡_}
 use native.Mathlib.Omega.{arith}
 use borrow.Author.Needs.{needs}
 use lib.ListN.{length, length-take}
-use Rattle.suite.proofs.Sets.{length-of-map}
+use Rattle.member.proofs.Rows.{length-of-map}
 use Rattle.suite.proofs.Suite.size.Statement.{statement}
 use Rattle.suite.proofs.Suite.size.Tie as tie
 

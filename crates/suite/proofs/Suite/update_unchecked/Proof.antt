@@ -3,7 +3,7 @@ use mathlib.Core.Path.{_≡_, sym, ap, _∙_}
 use lib.ListN.{length}
 use Rattle.suite.specs.Accepted.{one-vote-each, judged-fine}
 use Rattle.suite.specs.Suite.{ballots, tiles}
-use Rattle.suite.proofs.Sets.{length-of-map}
+use Rattle.member.proofs.Rows.{length-of-map}
 use Rattle.suite.specs.Calls.{judged, resultOf}
 use Rattle.suite.proofs.Calling.{within, fine-is, update-no}
 use Rattle.suite.proofs.Stepping.{update-gap, update-entry}

@@ -1,14 +1,17 @@
 -- `all_set` stops at the first row named that begins with 0. The invariant: the rows from place i on, by what is left of the set, decide as all do.
 use mathlib.Core.Logic.{⊎-elim}
-use mathlib.Core.Path.{_≡_, refl, sym, _∙_}
+use mathlib.Core.Path.{_≡_, refl, ap, sym, _∙_}
+use mathlib.Core.Bool.{not}
+use mathlib.Core.List.{[]}
 use Prim.Native.Nat.{_≤_, _-_}
 use native.Mathlib.Omega.{arith}
 use borrow.Author.Needs.{needs}
-use lib.ListN.{length, drop}
+use borrow.Author.Tests.{eq-eqb, ne-eqb}
+use lib.ListN.{length, drop, getD}
 use Rattle.suite.specs.Sets.{chosen, all}
 use Rattle.suite.specs.Rows.{isSet}
-use Rattle.suite.proofs.RowFacts.{set-stop, set-on, set-passed, set-past}
-use Rattle.suite.proofs.Sets.{length-of-map}
+use Rattle.suite.proofs.SetFolds.{every-stop, every-on, every-passed, every-past}
+use Rattle.member.proofs.Rows.{length-of-map}
 use Rattle.suite.proofs.table.all_set.Statement.{statement}
 use Rattle.suite.proofs.table.all_set.Tie as tie
 
@@ -36,7 +39,7 @@ returns c =
     let n : length l ≡ 8 = search (needs, length-of-map) in
     let i = c .before .before .before .before .loop .i in
     let left = c .before .before .before .before .loop .left in
-    sym (c .before .before .before .before .loop .inv .1 ∙ set-stop l i left (omega arith) (c .before .before .if1 .taken) (c .if2 .taken))
+    sym (c .before .before .before .before .loop .inv .1 ∙ every-stop isSet l i left [] (omega arith) (c .before .before .if1 .taken) (ap not (eq-eqb (getD (getD l i []) 0 0) 0 (c .if2 .taken))))
 
 add-i : tie.Need-add-i Inv-loop μ-loop
 add-i c = omega arith
@@ -52,15 +55,15 @@ loop-again c =
     let left = c .before .before .loop .left in
     let inv = c .before .before .loop .inv .1 in
     ⊎-elim
-    (λ w. (omega arith, inv ∙ set-on l i left (omega arith) (w .0 .taken) (w .2 .left)))
-    (λ w. (omega arith, inv ∙ set-passed l i left (omega arith) (w .left)))
+    (λ w. (omega arith, inv ∙ every-on isSet l i left [] (omega arith) (w .0 .taken) (ap not (ne-eqb (getD (getD l i []) 0 0) 0 (w .2 .left)))))
+    (λ w. (omega arith, inv ∙ every-passed isSet l i left [] (omega arith) (w .left)))
     (c .if1 .came)
 
 returns-2 : tie.Need-returns-2 Inv-loop μ-loop
 returns-2 c =
     let l = c .before .before .args .t1 in
     let n : length l ≡ 8 = search (needs, length-of-map) in
-    sym (c .before .loop .inv .1 ∙ set-past l (c .before .loop .i) (c .before .loop .left) (omega arith))
+    sym (c .before .loop .inv .1 ∙ every-past isSet l (c .before .loop .i) (c .before .loop .left) [] (omega arith))
 
 pub all-set-spec : {M : Type 1} → statement M
 all-set-spec =

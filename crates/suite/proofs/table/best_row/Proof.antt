@@ -1,16 +1,17 @@
 -- `best_row` keeps the best row so far. The invariant: going on with it over the rows left comes to the best of all.
 use mathlib.Core.Logic.{⊎-elim}
 use mathlib.Core.Bool.{true, false}
+use mathlib.Core.List.{[]}
 use mathlib.Core.Path.{_≡_, refl, sym, _∙_}
 use Prim.Native.Nat.{_≤_, _<_, _-_}
 use native.Mathlib.Omega.{arith}
 use borrow.Author.Needs.{needs}
-use lib.ListN.{length, drop}
+use lib.ListN.{length, drop, getD}
 use Rattle.suite.specs.Sets.{chosen}
 use Rattle.suite.specs.Best.{best}
 use Rattle.suite.specs.Rows.{beatsAt, noRow}
-use Rattle.suite.proofs.RowFacts.{best-weighed, best-first, best-passed, best-past, bestOn}
-use Rattle.suite.proofs.Sets.{length-of-map}
+use Rattle.suite.proofs.SetFolds.{bestOn, best-weighed, best-first, best-passed, best-past}
+use Rattle.member.proofs.Rows.{length-of-map}
 use Rattle.suite.proofs.table.best_row.Statement.{statement}
 use Rattle.suite.proofs.table.best_row.Tie as tie
 
@@ -48,12 +49,12 @@ loop-again c =
     let k = c .before .before .loop in
     let h : k .i < length (a .t1) = omega arith in
     ⊎-elim
-    (λ w. (omega arith, best-weighed f (a .t1) (k .i) (k .left) h true (k .any) (c .if1 .any) (k .got) (c .if1 .got) (k .inv .1) (w .0 .taken) (w .2 .taken) (sym (w .3 .ensures) ∙ w .4 .taken) (w .5) (w .6)))
+    (λ w. (omega arith, best-weighed f (a .t1) (k .i) (k .left) h (k .any) (k .got) (k .inv .1) true [] (getD (a .t1) (k .i) []) (c .if1 .any) (c .if1 .got) refl (w .0 .taken) (w .2 .taken) (sym (w .3 .ensures) ∙ w .4 .taken) (w .5) (w .6)))
     (⊎-elim
-    (λ w. (omega arith, best-weighed f (a .t1) (k .i) (k .left) h false (k .any) (c .if1 .any) (k .got) (c .if1 .got) (k .inv .1) (w .0 .taken) (w .2 .taken) (sym (w .3 .ensures) ∙ w .4 .left) (w .5) (w .6)))
+    (λ w. (omega arith, best-weighed f (a .t1) (k .i) (k .left) h (k .any) (k .got) (k .inv .1) false [] (getD (a .t1) (k .i) []) (c .if1 .any) (c .if1 .got) refl (w .0 .taken) (w .2 .taken) (sym (w .3 .ensures) ∙ w .4 .left) (w .5) (w .6)))
     (⊎-elim
-    (λ w. (omega arith, best-first f (a .t1) (k .i) (k .left) h (k .any) (c .if1 .any) (k .got) (c .if1 .got) (k .inv .1) (w .0 .taken) (w .2 .left) (w .3) (w .4)))
-    (λ w. (omega arith, best-passed f (a .t1) (k .i) (k .left) h (k .any) (c .if1 .any) (k .got) (c .if1 .got) (k .inv .1) (w .0 .left) (w .1) (w .2)))))
+    (λ w. (omega arith, best-first f (a .t1) (k .i) (k .left) h (k .any) (k .got) (k .inv .1) [] (getD (a .t1) (k .i) []) (c .if1 .any) (c .if1 .got) refl (w .0 .taken) (w .2 .left) (w .3) (w .4)))
+    (λ w. (omega arith, best-passed f (a .t1) (k .i) (k .left) h (k .any) (k .got) (k .inv .1) [] (c .if1 .any) (c .if1 .got) (w .0 .left) (w .1) (w .2)))))
     (c .if1 .came)
 
 returns : tie.Need-returns Inv-loop μ-loop

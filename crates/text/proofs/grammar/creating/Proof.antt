@@ -1,8 +1,9 @@
 -- `text::grammar::creating`: two numbers, and the votes.
 use mathlib.Core.Path.{sym, _∙_}
 use borrow.Author.Needs.{needs}
+use native.Mathlib.Omega.{arith}
 use Rattle.text.specs.Line.{creating, notUnderstood}
-use Rattle.text.proofs.Arguments.{number-goes, number-stops}
+use Rattle.text.proofs.Arguments.{number-step, number-goes, number-stops}
 use Rattle.text.proofs.grammar.creating.Statement.{statement}
 use Rattle.text.proofs.grammar.creating.Tie as tie
 
@@ -25,6 +26,9 @@ returns c =
     ∙ sym
     (number-stops _ _ (c .before .before .before .number-at .ensures) (c .before .enum-told .given .1) _)
 
+add-number-at : tie.Need-add-number-at
+add-number-at c = omega (arith, number-step _ _ (c .before .before .before .number-at .ensures) (c .before .read .given .1) .within)
+
 number-at-requires-2 : tie.Need-number-at-requires-2
 number-at-requires-2 c κs = search needs
 
@@ -44,6 +48,9 @@ returns-2 c =
     ∙ sym
     (number-goes _ _ (c .before .before .before .before .before .before .before .number-at .ensures) (c .before .before .before .before .before .read .given .1) _
     ∙ (number-stops _ _ (c .before .before .before .number-at2 .ensures) (c .before .enum-told2 .given .1) _))
+
+add-voting : tie.Need-add-voting
+add-voting c = omega (arith, number-step _ _ (c .before .before .before .number-at2 .ensures) (c .before .write .given .1) .within)
 
 voting-requires : tie.Need-voting-requires
 voting-requires c κs = search needs
@@ -65,10 +72,12 @@ creating-spec =
     enum-told
     alone-requires
     returns
+    add-number-at
     number-at-requires-2
     enum-known-write
     enum-told-2
     alone-requires-2
     returns-2
+    add-voting
     voting-requires
     returns-3)

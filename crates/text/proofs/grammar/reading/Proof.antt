@@ -1,8 +1,10 @@
 -- `text::grammar::reading`: a set, a name, and nothing more.
-use mathlib.Core.Path.{sym, _∙_}
+use mathlib.Core.Path.{sym, _∙_, ap}
 use borrow.Author.Needs.{needs}
-use Rattle.text.specs.Line.{reading, notUnderstood}
-use Rattle.text.proofs.Arguments.{set-goes, set-stops, number-goes, number-stops, ends-here, goes-on}
+use native.Mathlib.Omega.{arith}
+use Rattle.text.specs.Line.{reading, alone, notUnderstood}
+use Rattle.text.specs.declared.Parsed.{Parsed}
+use Rattle.text.proofs.Arguments.{set-step, set-goes, set-stops, number-goes, number-stops, ends-here, goes-on}
 use Rattle.text.proofs.grammar.reading.Statement.{statement}
 use Rattle.text.proofs.grammar.reading.Tie as tie
 
@@ -15,15 +17,13 @@ enum-known-read c = search needs
 enum-told : tie.Need-enum-told
 enum-told c = search needs
 
-alone-requires : tie.Need-alone-requires
-alone-requires c κs = search needs
-
 returns : tie.Need-returns
-unfolding reading notUnderstood
+unfolding reading notUnderstood alone
 returns c =
-    c .alone .ensures
-    ∙ sym
-    (set-stops _ _ (c .before .before .before .set-at .ensures) (c .before .enum-told .given .1) _)
+    sym (ap (λ (p : Parsed). p .command) (set-stops _ _ (c .before .before .set-at .ensures) (c .enum-told .given .1) _))
+
+add-number-at : tie.Need-add-number-at
+add-number-at c = omega (arith, set-step _ _ (c .before .before .before .set-at .ensures) (c .before .read .given .1) .within)
 
 number-at-requires : tie.Need-number-at-requires
 number-at-requires c κs = search needs
@@ -34,50 +34,34 @@ enum-known-name c = search needs
 enum-told-2 : tie.Need-enum-told-2
 enum-told-2 c = search needs
 
-alone-requires-2 : tie.Need-alone-requires-2
-alone-requires-2 c κs = search needs
-
 returns-2 : tie.Need-returns-2
-unfolding reading notUnderstood
+unfolding reading notUnderstood alone
 returns-2 c =
-    c .alone2 .ensures
-    ∙ sym
-    (set-goes _ _ (c .before .before .before .before .before .before .before .set-at .ensures) (c .before .before .before .before .before .read .given .1) _
-    ∙ (number-stops _ _ (c .before .before .before .number-at .ensures) (c .before .enum-told2 .given .1) _))
-
-alone-requires-3 : tie.Need-alone-requires-3
-alone-requires-3 c κs = search needs
+    sym (ap (λ (p : Parsed). p .command) (set-goes _ _ (c .before .before .before .before .before .before .set-at .ensures) (c .before .before .before .before .read .given .1) _
+    ∙ (number-stops _ _ (c .before .before .number-at .ensures) (c .enum-told2 .given .1) _)))
 
 returns-3 : tie.Need-returns-3
-unfolding reading notUnderstood
+unfolding reading notUnderstood alone
 returns-3 c =
-    c .alone3 .ensures
-    ∙ sym
-    (set-goes _ _ (c .before .before .before .before .before .before .before .before .before .set-at .ensures) (c .before .before .before .before .before .before .before .read .given .1) _
-    ∙ (number-goes _ _ (c .before .before .before .before .before .number-at .ensures) (c .before .before .before .name .given .1) _
-    ∙ (goes-on _ _ (c .before .if1 .taken) _)))
-
-alone-requires-4 : tie.Need-alone-requires-4
-alone-requires-4 c κs = search needs
-
-alone-requires-5 : tie.Need-alone-requires-5
-alone-requires-5 c κs = search needs
+    sym (ap (λ (p : Parsed). p .command) (set-goes _ _ (c .before .before .before .before .before .before .before .before .set-at .ensures) (c .before .before .before .before .before .before .read .given .1) _
+    ∙ (number-goes _ _ (c .before .before .before .before .number-at .ensures) (c .before .before .name .given .1) _
+    ∙ (goes-on _ _ (c .if1 .taken) _))))
 
 returns-4 : tie.Need-returns-4
-unfolding reading notUnderstood
-returns-4 c = rw (c .before .if2 .taken) (c .alone4 .ensures
-    ∙ sym
-    (set-goes _ _ (c .before .before .before .before .before .before .before .before .before .before .set-at .ensures) (c .before .before .before .before .before .before .before .before .read .given .1) _
-    ∙ (number-goes _ _ (c .before .before .before .before .before .before .number-at .ensures) (c .before .before .before .before .name .given .1) _
-    ∙ (ends-here _ _ (c .before .before .if1 .left) _))))
+unfolding reading notUnderstood alone
+returns-4 c =
+    rw (c .if2 .taken)
+    (sym (ap (λ (p : Parsed). p .command) (set-goes _ _ (c .before .before .before .before .before .before .before .before .before .set-at .ensures) (c .before .before .before .before .before .before .before .read .given .1) _
+    ∙ (number-goes _ _ (c .before .before .before .before .before .number-at .ensures) (c .before .before .before .name .given .1) _
+    ∙ (ends-here _ _ (c .before .if1 .left) _)))))
 
 returns-5 : tie.Need-returns-5
-unfolding reading notUnderstood
-returns-5 c = rw (c .before .if2 .left) (c .alone5 .ensures
-    ∙ sym
-    (set-goes _ _ (c .before .before .before .before .before .before .before .before .before .before .set-at .ensures) (c .before .before .before .before .before .before .before .before .read .given .1) _
-    ∙ (number-goes _ _ (c .before .before .before .before .before .before .number-at .ensures) (c .before .before .before .before .name .given .1) _
-    ∙ (ends-here _ _ (c .before .before .if1 .left) _))))
+unfolding reading notUnderstood alone
+returns-5 c =
+    rw (c .if2 .left)
+    (sym (ap (λ (p : Parsed). p .command) (set-goes _ _ (c .before .before .before .before .before .before .before .before .before .set-at .ensures) (c .before .before .before .before .before .before .before .read .given .1) _
+    ∙ (number-goes _ _ (c .before .before .before .before .before .number-at .ensures) (c .before .before .before .name .given .1) _
+    ∙ (ends-here _ _ (c .before .if1 .left) _)))))
 
 pub reading-spec : {M : Type 1} → statement M
 reading-spec =
@@ -86,16 +70,12 @@ reading-spec =
     set-at-requires
     enum-known-read
     enum-told
-    alone-requires
     returns
+    add-number-at
     number-at-requires
     enum-known-name
     enum-told-2
-    alone-requires-2
     returns-2
-    alone-requires-3
     returns-3
-    alone-requires-4
-    alone-requires-5
     returns-4
     returns-5)

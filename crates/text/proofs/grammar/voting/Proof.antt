@@ -54,6 +54,9 @@ array-write-votes c = omega arith
 add-count : tie.Need-add-count Inv-loop μ-loop
 add-count c = omega arith
 
+add-next : tie.Need-add-next Inv-loop μ-loop
+add-next c = omega (arith, number-step _ _ (c .before .before .before .before .number-at .ensures) (c .before .before .value .given .1) .within)
+
 loop-less : tie.Need-loop-less Inv-loop μ-loop
 loop-less c = omega (arith, number-step _ _ (c .before .before .before .before .number-at .ensures) (c .before .before .value .given .1) .beyond)
 
@@ -89,6 +92,7 @@ voting-spec =
     mul-votes
     array-write-votes
     add-count
+    add-next
     loop-less
     loop-again
     returns-2)

@@ -2,6 +2,8 @@
 use mathlib.Core.Path.{sym, _∙_}
 use mathlib.Core.Bool.{true, false}
 use borrow.Author.Needs.{needs}
+use native.Mathlib.Omega.{arith}
+use Rattle.text.specs.Words.{largest}
 use Rattle.text.proofs.Numbers.{here-digit, here-other, no-digit-below, no-digit-above}
 use Rattle.text.proofs.Sets.{number-past, number-byte, zero-at}
 use Rattle.text.proofs.scan.number_at.Statement.{statement}
@@ -29,7 +31,8 @@ wide-requires : tie.Need-wide-requires
 wide-requires c κs = search needs
 
 digits-requires : tie.Need-digits-requires
-digits-requires c κs = search needs
+unfolding largest
+digits-requires c κs = omega arith
 
 returns-2 : tie.Need-returns-2
 returns-2 c =

@@ -5,7 +5,7 @@ use Rattle.member.specs.Tile.{entries}
 use Rattle.member.specs.SearchLaws.{endCut, below-le-length, past-le-length}
 use Rattle.member.proofs.Fits.{fits-order}
 use Rattle.tile.specs.Lent.{tileIn}
-use Rattle.tile.proofs.RemovalSteps.{room}
+use Rattle.tile.proofs.RemovalSteps.{room, fits-two}
 use Rattle.tile.proofs.removal.fits_coalesce.Statement.{statement}
 use Rattle.tile.proofs.removal.fits_coalesce.Tie as tie
 
@@ -16,6 +16,16 @@ returns c =
 
 used-requires : tie.Need-used-requires
 used-requires c κs = search needs
+
+add-if2 : tie.Need-add-if2
+add-if2 c = search needs
+
+returns-2 : tie.Need-returns-2
+returns-2 c =
+    let all = c .before in
+    let order = all .before in
+    let a = order .before .args in
+    fits-two (tileIn (a .tile .now)) (a .p) (a .s) (all .used .result) (order .if1 .left) (all .used .ensures .0) (c .if2 .taken)
 
 below-end-requires : tie.Need-below-end-requires
 below-end-requires c κs = search needs
@@ -28,7 +38,7 @@ rows-of-requires c κs = search needs
 
 add-mid : tie.Need-add-mid
 add-mid c =
-    let a = c .before .before .before .before .before .args in
+    let a = c .before .before .before .before .before .before .args in
     omega (arith, below-le-length (endCut (a .p)) (entries (tileIn (a .tile .now))))
 
 rows-of-requires-2 : tie.Need-rows-of-requires-2
@@ -36,26 +46,26 @@ rows-of-requires-2 c κs = search needs
 
 add-end : tie.Need-add-end
 add-end c =
-    let a = c .before .before .before .before .before .before .args in
+    let a = c .before .before .before .before .before .before .before .args in
     omega (arith, below-le-length (endCut (a .p)) (entries (tileIn (a .tile .now))))
 
 sub-result : tie.Need-sub-result
 sub-result c =
-    let a = c .before .before .before .before .before .before .args in
+    let a = c .before .before .before .before .before .before .before .args in
     omega (arith, past-le-length (endCut (a .s)) (entries (tileIn (a .tile .now))))
 
 add-result : tie.Need-add-result
 add-result c =
-    let a = c .before .before .before .before .before .before .args in
+    let a = c .before .before .before .before .before .before .before .args in
     let m = tileIn (a .tile .now) in
     omega (arith, below-le-length (endCut (a .p)) (entries m), past-le-length (endCut (a .s)) (entries m))
 
-returns-2 : tie.Need-returns-2
-returns-2 c =
+returns-3 : tie.Need-returns-3
+returns-3 c =
     let x = c .before in
     let to = x .before in
     let from = to .before in
-    let all = from .before in
+    let all = from .before .before in
     let order = all .before in
     let a = order .before .args in
     room {m = tileIn (a .tile .now)} {p = a .p} {s = a .s}
@@ -74,6 +84,8 @@ fits-coalesce-spec =
     (tie.spec
     returns
     used-requires
+    add-if2
+    returns-2
     below-end-requires
     past-end-requires
     rows-of-requires
@@ -82,4 +94,4 @@ fits-coalesce-spec =
     add-end
     sub-result
     add-result
-    returns-2)
+    returns-3)

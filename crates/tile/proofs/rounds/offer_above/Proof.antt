@@ -16,27 +16,24 @@ use Rattle.tile.proofs.rounds.offer_above.Statement.{statement}
 use Rattle.tile.proofs.rounds.offer_above.Tie as tie
 
 abbrev Inv-loop : tie.InvT-loop
-Inv-loop tile name k v n i₀ i =
+Inv-loop tile at name k v n i₀ i =
     (n ≡ length (entries (tileIn tile))) × (n ≤ 32) × (i ≤ n)
     × (offerAboveOf (tileIn tile) name k v ≡ firstOffer k v (bareOffer high k) (drop i (entries (tileIn tile))))
 
 abbrev μ-loop : tie.MeasureT-loop
-μ-loop tile name k v n i₀ i = n - i
+μ-loop tile at name k v n i₀ i = n - i
 
 used-requires : tie.Need-used-requires Inv-loop μ-loop
 used-requires c κs = search needs
-
-seat-requires : tie.Need-seat-requires Inv-loop μ-loop
-seat-requires c κs = search needs
 
 next-requires : tie.Need-next-requires Inv-loop μ-loop
 next-requires c κs = search needs
 
 loop-holds : tie.Need-loop-holds Inv-loop μ-loop
 loop-holds c =
-    let a = c .before .before .before .args in
+    let a = c .before .before .args in
     let m = tileIn (a .tile .now) in
-    let n = c .before .before .used .ensures in
+    let n = c .before .used .ensures in
     let s = c .next .ensures in
     (n .0, n .1, omega (arith, next-le (entries m) (a .name)), above-from m (a .name) (a .k) (a .v) _ s)
 
@@ -56,7 +53,7 @@ returns : tie.Need-returns Inv-loop μ-loop
 returns c =
     let met = c .before .before .before in
     let at = met .before .before .before in
-    let a = at .before .before .before .before .args in
+    let a = at .before .before .before .args in
     let is : true ≡ _ = sym (c .before .if1 .taken) ∙ c .before .before .is-offered .ensures in
     c .offer .ensures
     ∙ sym
@@ -73,7 +70,7 @@ loop-again : tie.Need-loop-again Inv-loop μ-loop
 loop-again c =
     let met = c .before .before in
     let at = met .before .before .before in
-    let a = at .before .before .before .before .args in
+    let a = at .before .before .before .args in
     let is-not : false ≡ _ = sym (c .if1 .left) ∙ c .before .is-offered .ensures in (
       at .loop .inv .0,
       at .loop .inv .1,
@@ -88,7 +85,7 @@ offer-end-requires c κs = search needs
 returns-2 : tie.Need-returns-2 Inv-loop μ-loop
 returns-2 c =
     let at = c .before .before in
-    let a = at .before .before .before .before .args in
+    let a = at .before .before .before .args in
     c .offer-end .ensures
     ∙ sym (at .loop .inv .3 ∙ first-end (a .k) (a .v) _ (entries (tileIn (a .tile .now))) (at .loop .i) (omega arith))
 
@@ -99,7 +96,6 @@ offer-above-spec =
     Inv-loop
     μ-loop
     used-requires
-    seat-requires
     next-requires
     loop-holds
     row-requires

@@ -16,22 +16,18 @@ use Rattle.tile.proofs.rounds.offer_below.Statement.{statement}
 use Rattle.tile.proofs.rounds.offer_below.Tie as tie
 
 abbrev Inv-loop : tie.InvT-loop
-Inv-loop tile name k v i₀ i =
+Inv-loop tile at name k v i₀ i =
     (length (entries (tileIn tile)) ≤ 32) × (i ≤ length (entries (tileIn tile)))
     × (offerBelowOf (tileIn tile) name k v ≡ lastOffer k v (bareOffer 0 k) (take i (entries (tileIn tile))))
 
 abbrev μ-loop : tie.MeasureT-loop
-μ-loop tile name k v i₀ i = i
-
-seat-requires : tie.Need-seat-requires Inv-loop μ-loop
-seat-requires c κs = search needs
+μ-loop tile at name k v i₀ i = i
 
 loop-holds : tie.Need-loop-holds Inv-loop μ-loop
 loop-holds c =
-    let a = c .before .args in
+    let a = c .args in
     let m = tileIn (a .tile .now) in
-    let s = c .seat .ensures in
-    (tile-le (a .tile .now), omega (arith, seat-le (entries m) (a .name)), below-from m (a .name) (a .k) (a .v) _ s)
+    (tile-le (a .tile .now), omega (arith, seat-le (entries m) (a .name)), below-from m (a .name) (a .k) (a .v) (a .at) (c .pre))
 
 sub-i : tie.Need-sub-i Inv-loop μ-loop
 sub-i c = omega arith
@@ -52,7 +48,7 @@ returns : tie.Need-returns Inv-loop μ-loop
 returns c =
     let met = c .before .before .before in
     let at = met .before .before .before in
-    let a = at .before .before .args in
+    let a = at .before .args in
     let is : true ≡ _ = sym (c .before .if1 .taken) ∙ c .before .before .is-offered .ensures in
     c .offer .ensures
     ∙ sym
@@ -66,7 +62,7 @@ loop-again : tie.Need-loop-again Inv-loop μ-loop
 loop-again c =
     let met = c .before .before in
     let at = met .before .before .before in
-    let a = at .before .before .args in
+    let a = at .before .args in
     let is-not : false ≡ _ = sym (c .if1 .left) ∙ c .before .is-offered .ensures in (
       at .loop .inv .0,
       omega arith,
@@ -80,7 +76,7 @@ offer-end-requires c κs = search needs
 returns-2 : tie.Need-returns-2 Inv-loop μ-loop
 returns-2 c =
     let at = c .before .before in
-    let a = at .before .before .args in
+    let a = at .before .args in
     c .offer-end .ensures
     ∙ sym (at .loop .inv .2 ∙ last-end (a .k) (a .v) _ (entries (tileIn (a .tile .now))) (at .loop .i) (omega arith))
 
@@ -90,7 +86,6 @@ offer-below-spec =
     (tie.spec
     Inv-loop
     μ-loop
-    seat-requires
     loop-holds
     sub-i
     row-requires

@@ -10,8 +10,8 @@ use Rattle.tile.specs.Lent.{tileIn}
 use Rattle.tile.proofs.sound.is_sound.Statement.{statement}
 use Rattle.tile.proofs.sound.is_sound.Tie as tie
 
-element-copy-out-if1 : tie.Need-element-copy-out-if1
-element-copy-out-if1 c = search needs
+count-requires : tie.Need-count-requires
+count-requires c κs = search needs
 
 returns : tie.Need-returns
 unfolding soundMember
@@ -52,7 +52,7 @@ pub is-sound-spec : {M : Type 1} → statement M
 is-sound-spec =
     tie.close
     (tie.spec
-    element-copy-out-if1
+    count-requires
     returns
     lowest-gap-requires
     returns-2

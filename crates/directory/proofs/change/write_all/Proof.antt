@@ -1,4 +1,4 @@
--- `change` changes the tiles that the set names. The invariant: up to place i they hold the target, and from there on the target is
+-- `write_all` changes the tiles that the set names. The invariant: up to place i they hold the target, and from there on the target is
 -- what is left to change.
 use mathlib.Core.Path.{_≡_, sym, subst}
 use mathlib.Core.Logic.{⊎-elim}
@@ -8,18 +8,19 @@ use native.Mathlib.Omega.{arith}
 use lib.ListN.{length}
 use Rattle.suite.specs.Suite.{tiles}
 use Rattle.suite.specs.Calls.{effectOf}
+use Rattle.suite.specs.declared.Effect.the-variants as effect
 use Rattle.suite.proofs.Asking.{Done, done-start}
 use Rattle.directory.proofs.AskPlaces.{firstIn, first-length}
 use Rattle.directory.proofs.AskChange.{changed-named, changed-passed, changed-end}
-use Rattle.directory.proofs.ask.change.Statement.{statement}
-use Rattle.directory.proofs.ask.change.Tie as tie
+use Rattle.directory.proofs.change.write_all.Statement.{statement}
+use Rattle.directory.proofs.change.write_all.Tie as tie
 
 abbrev Inv-loop : tie.InvT-loop
-Inv-loop lent₀ set effect n left₀ i₀ lent left i =
-    (n ≡ length (tiles (firstIn n lent₀))) × (n ≤ 8) × (i ≤ n) × Done (effectOf effect) (firstIn n lent₀) set (firstIn n lent) left i
+Inv-loop lent₀ set name version value n left₀ i₀ lent left i =
+    (n ≡ length (tiles (firstIn n lent₀))) × (n ≤ 8) × (i ≤ n) × Done (effectOf (effect.Write name version value)) (firstIn n lent₀) set (firstIn n lent) left i
 
 abbrev μ-loop : tie.MeasureT-loop
-μ-loop lent₀ set effect n left₀ i₀ lent left i = n - i
+μ-loop lent₀ set name version value n left₀ i₀ lent left i = n - i
 
 places-requires : tie.Need-places-requires Inv-loop μ-loop
 places-requires c κs = search needs
@@ -31,17 +32,17 @@ loop-holds c =
       first-length (a .frame) (a .lent .now) (c .places .result) (n .1 .0),
       n .1 .1,
       omega arith,
-      done-start (effectOf (a .effect)) (firstIn (c .places .result) (a .lent .now)) (a .set),
+      done-start (effectOf (effect.Write (a .name) (a .version) (a .value))) (firstIn (c .places .result) (a .lent .now)) (a .set),
     )
 
-mul-change-tile : tie.Need-mul-change-tile Inv-loop μ-loop
-mul-change-tile c = omega arith
+mul-write : tie.Need-mul-write Inv-loop μ-loop
+mul-write c = omega arith
 
-index-1-change-tile : tie.Need-index-1-change-tile Inv-loop μ-loop
-index-1-change-tile c = omega arith
+index-1-write : tie.Need-index-1-write Inv-loop μ-loop
+index-1-write c = omega arith
 
-change-tile-requires : tie.Need-change-tile-requires Inv-loop μ-loop
-change-tile-requires c κs = search needs
+write-requires : tie.Need-write-requires Inv-loop μ-loop
+write-requires c κs = search needs
 
 add-i : tie.Need-add-i Inv-loop μ-loop
 add-i c = omega arith
@@ -52,7 +53,7 @@ loop-less c = omega arith
 loop-again : tie.Need-loop-again Inv-loop μ-loop
 loop-again c =
     let a = c .before .before .before .before .before .args in
-    let g = effectOf (a .effect) in
+    let g = effectOf (effect.Write (a .name) (a .version) (a .value)) in
     let n = c .before .before .before .places .result in
     let l₀ = a .lent .now in
     let l = c .before .before .loop .lent in
@@ -82,20 +83,20 @@ returns c =
     let a = c .before .before .before .before .args in
     let n = c .before .before .places in
     let w = c .before .loop in
-    changed-end (effectOf (a .effect)) (a .frame) (a .lent .now) (n .result) (a .set) (w .lent) (w .left) (w .i) (n .ensures .1 .0) (omega arith)
+    changed-end (effectOf (effect.Write (a .name) (a .version) (a .value))) (a .frame) (a .lent .now) (n .result) (a .set) (w .lent) (w .left) (w .i) (n .ensures .1 .0) (omega arith)
     (w .inv .3)
 
-pub change-spec : {M : Type 1} → statement M
-change-spec =
+pub write-all-spec : {M : Type 1} → statement M
+write-all-spec =
     tie.close
     (tie.spec
     Inv-loop
     μ-loop
     places-requires
     loop-holds
-    mul-change-tile
-    index-1-change-tile
-    change-tile-requires
+    mul-write
+    index-1-write
+    write-requires
     add-i
     loop-less
     loop-again

@@ -4,10 +4,14 @@ use mathlib.Core.List.{List}
 use mathlib.Core.Bool.{Bool, true, false, cond}
 use Prim.Native.Nat.{ℕ, _+_, _/_, _%_, _≤_, _<_}
 use lib.ListN.{length, drop, getD}
 use Rattle.suite.specs.Sets.{chosen, all}
 use Rattle.suite.specs.Best.{best, bestFrom}
-use Rattle.suite.proofs.RowFacts.{bestOn}
 use Rattle.suite.proofs.Sets.{chosen-named, chosen-passed, chosen-past}
+
+-- the best of what is left, going on with one where there is one already
+abbrev pub bestOn : {A : Type 0} → (A → A → Bool) → Bool → A → List A → A
+bestOn f true got l = bestFrom f got l
+bestOn f false got l = best f got l
 
 -- the best so far is got, where there is any
 module _ {A : Type 0} (f : A → A → Bool) (l : List A) (i left : ℕ) (h : i < length l) {x : A} (any : Bool) (got : A)
