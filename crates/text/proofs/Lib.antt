@@ -8,6 +8,7 @@ pub mod Votes
 pub mod Commands
 pub mod Suites
 pub mod Writing
+pub mod Sizes
 pub mod Printing
 pub mod Longest
 pub mod Reading

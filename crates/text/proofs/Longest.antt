@@ -3,27 +3,25 @@ use mathlib.Core.Path.{_≡_}
 use Prim.Native.Nat.{ℕ, _+_, _≤_}
 use native.Mathlib.Omega.{arith}
 use mathlib.Core.Bool.{true}
-use lib.ListN.{length, length-append}
+use lib.ListN.{length}
 use borrow.Author.Tests.{le-leb}
-use Rattle.text.specs.Words.{ascii}
-use Rattle.text.specs.Answer.{saying, textOf, fitsAt}
+use Rattle.text.specs.Answer.{textOf, fitsAt}
 use Rattle.text.specs.declared.Reply.{Reply}
 use Rattle.text.specs.declared.Reply.the-variants.{SuiteOk, Ok, Removed, At, Absent, Near, Refused}
 use Rattle.text.proofs.Writing.{decimal-length, end-length}
+use Rattle.text.proofs.Sizes.{sizeOf, text-size}
 
-saying-length : (reply : Reply) → length (saying reply) ≤ 32
-unfolding saying ascii
-saying-length SuiteOk = omega arith
-saying-length (Ok v) = simp length-append (omega (arith, decimal-length v))
-saying-length (Removed v q) = simp length-append (omega (arith, decimal-length v, decimal-length q))
-saying-length (At v x) = simp length-append (omega (arith, decimal-length v, decimal-length x))
-saying-length (Absent v) = simp length-append (omega (arith, decimal-length v))
-saying-length (Near b a q) = simp length-append (omega (arith, end-length b, end-length a, decimal-length q))
-saying-length (Refused n) = simp length-append (omega (arith, decimal-length n))
+most : (reply : Reply) → sizeOf reply ≤ 33
+most SuiteOk = omega arith
+most (Ok v) = omega (arith, decimal-length v)
+most (Removed v q) = omega (arith, decimal-length v, decimal-length q)
+most (At v x) = omega (arith, decimal-length v, decimal-length x)
+most (Absent v) = omega (arith, decimal-length v)
+most (Near b a q) = omega (arith, end-length b, end-length a, decimal-length q)
+most (Refused n) = omega (arith, decimal-length n)
 
 pub longest : (reply : Reply) → length (textOf reply) ≤ 33
-unfolding textOf ascii
-longest reply = omega (arith, saying-length reply, length-append (saying reply) (ascii "\n"))
+longest reply = rw (text-size reply) (most reply)
 
 pub longest-fits : (n at : ℕ) (reply : Reply) → at + 33 ≤ n → fitsAt n at (textOf reply) ≡ true
 unfolding fitsAt

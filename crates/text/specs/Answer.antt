@@ -55,7 +55,8 @@ unfoldable pub printed : List ℕ → ℕ → List ℕ → List ℕ
 printed out at text =
     cond (fitsAt (length out) at text) (take at out ++ (text ++ drop (at + length text) out)) out
 
--- what a piece of a text that is written in front of `at` leaves: the piece from its own place on, and then what was there
+-- what a piece of a text that is written in front of `at` leaves: the piece at its own place, and every other byte as it was
 pub record Written (old : List ℕ) (at : ℕ) (new : List ℕ) (from : ℕ) (piece : List ℕ) : Type 0 where
   pub place : from + length piece ≡ at
+  pub front : take from new ≡ take from old
   pub bytes : drop from new ≡ piece ++ drop at old

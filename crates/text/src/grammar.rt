@@ -68,8 +68,8 @@ fn kind_of(word: &[u8]) -> Kind
     Kind::Other
 }
 
-// The command whose word is the first `end` bytes, with its arguments behind the space there. Each function below has one caller, so that all of
-// them become one piece of code.
+// The command whose word is the first `end` bytes, with its arguments behind the space there. Commands of one kind share one call, since a function
+// that is called once costs no call.
 pub(crate) fn command_in(line: &[u8], end: usize) -> Command
     requires { ⌜ end ≤ length (now line) ⌝ }
     ensures { λ r. ⌜ r ≡ commandFor (kindOf (take end (now (line .entry)))) (wordsFrom (now (line .entry)) (end + 1)) .command ⌝ }

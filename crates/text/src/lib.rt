@@ -134,15 +134,14 @@ pub fn print(reply: Reply, out: &mut [u8], at: usize) -> usize
     ensures { λ r. ⌜ r ≡ placeAfter (length (now (out .entry))) at (textOf reply) ⌝ }
     ensures { λ _. ⌜ now (out .exit) ≡ printed (now (out .entry)) at (textOf reply) ⌝ }
 {
-    let mut text = [b'\n'; Reply::LONGEST];
-    let from = write::line(&mut text, Reply::LONGEST - 1, reply);
-    let size = Reply::LONGEST - from;
+    let size = write::size(reply);
     if out.len() < size {
         return at;
     }
     if out.len() - size < at {
         return at;
     }
-    write::put(out, at, &text[from..]);
-    at + size
+    let end = at + size;
+    write::line(out, end, reply);
+    end
 }

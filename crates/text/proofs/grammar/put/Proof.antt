@@ -1,5 +1,4 @@
 -- `text::grammar::put`: by whether the command is `upd`.
-use mathlib.Core.Path.{refl}
 use Rattle.text.proofs.grammar.put.Statement.{statement}
 use Rattle.text.proofs.grammar.put.Tie as tie
 

@@ -1,5 +1,4 @@
 -- `text::grammar::word_end`: the letters that the line begins with are its first word, or the line is no command.
-use mathlib.Core.Path.{_≡_}
 use borrow.Author.Needs.{needs}
 use native.Mathlib.Omega.{arith}
 use Rattle.text.specs.Line.{longestLine}

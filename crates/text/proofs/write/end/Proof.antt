@@ -1,5 +1,8 @@
 -- `text::write::end`: LOW, HIGH or a name.
+use mathlib.Core.Path.{ap}
 use borrow.Author.Needs.{needs}
+use native.Mathlib.Omega.{arith}
+use lib.ListN.{length}
 use Rattle.text.specs.Words.{ascii}
 use Rattle.text.specs.Answer.{highEnd}
 use Rattle.text.proofs.Writing.{end-low, end-high, end-name}
@@ -10,7 +13,8 @@ slice-aggregate-prepend : tie.Need-slice-aggregate-prepend
 slice-aggregate-prepend c = search needs
 
 prepend-requires : tie.Need-prepend-requires
-prepend-requires c κs = search needs
+unfolding ascii
+prepend-requires c κs = omega (arith, ap length (end-low _ (c .before .before .if1 .taken)))
 
 same-length : tie.Need-same-length
 same-length c = search needs
@@ -23,7 +27,8 @@ slice-aggregate-prepend-2 : tie.Need-slice-aggregate-prepend-2
 slice-aggregate-prepend-2 c = search needs
 
 prepend-requires-2 : tie.Need-prepend-requires-2
-prepend-requires-2 c κs = search needs
+unfolding ascii highEnd
+prepend-requires-2 c κs = omega (arith, ap length (end-high _ (c .before .before .before .if1 .left) (c .before .before .if2 .taken)))
 
 same-length-2 : tie.Need-same-length-2
 same-length-2 c = search needs
@@ -36,7 +41,8 @@ sub-number : tie.Need-sub-number
 sub-number c = search needs
 
 number-requires : tie.Need-number-requires
-number-requires c κs = search needs
+unfolding highEnd
+number-requires c κs = omega (arith, ap length (end-name _ (c .before .before .if1 .left) (c .before .if2 .left)))
 
 same-length-3 : tie.Need-same-length-3
 same-length-3 c = search needs

@@ -2,7 +2,7 @@
 use borrow.Author.Needs.{needs}
 use native.Mathlib.Omega.{arith}
 use Rattle.text.specs.Words.{ascii}
-use Rattle.text.proofs.Writing.{written-then, decimal-length, end-length}
+use Rattle.text.proofs.Writing.{written-then}
 use Rattle.text.proofs.write.near.Statement.{statement}
 use Rattle.text.proofs.write.near.Tie as tie
 
@@ -14,22 +14,22 @@ slice-aggregate-prepend c = search needs
 
 prepend-requires : tie.Need-prepend-requires
 prepend-requires c κs =
-    omega (arith, decimal-length (c .before .before .before .before .before .before .before .args .n), c .before .before .before .before .number .ensures .place, c .before .before .before .before .number .kept .0)
+    omega (arith, c .before .before .before .before .number .ensures .place, c .before .before .before .before .number .kept .0)
 
 end-requires : tie.Need-end-requires
 end-requires c κs =
-    omega (arith, decimal-length (c .before .before .before .before .before .before .before .before .before .before .before .args .n), c .before .before .before .before .before .before .before .before .number .ensures .place, c .before .before .before .before .before .before .before .before .number .kept .0, c .before .before .before .prepend .ensures .place, c .before .before .before .prepend .kept .0)
+    omega (arith, c .before .before .before .before .before .before .before .before .number .ensures .place, c .before .before .before .before .before .before .before .before .number .kept .0, c .before .before .before .prepend .ensures .place, c .before .before .before .prepend .kept .0)
 
 slice-aggregate-prepend-2 : tie.Need-slice-aggregate-prepend-2
 slice-aggregate-prepend-2 c = search needs
 
 prepend-requires-2 : tie.Need-prepend-requires-2
 prepend-requires-2 c κs =
-    omega (arith, decimal-length (c .before .before .before .before .before .before .before .before .before .before .before .before .before .before .before .before .args .n), end-length (c .before .before .before .before .before .before .before .before .before .before .before .before .before .before .before .before .args .above), c .before .before .before .before .before .before .before .before .before .before .before .before .before .number .ensures .place, c .before .before .before .before .before .before .before .before .before .before .before .before .before .number .kept .0, c .before .before .before .before .before .before .before .before .prepend .ensures .place, c .before .before .before .before .before .before .before .before .prepend .kept .0, c .before .before .before .before .end .ensures .place, c .before .before .before .before .end .kept .0)
+    omega (arith, c .before .before .before .before .before .before .before .before .before .before .before .before .before .number .ensures .place, c .before .before .before .before .before .before .before .before .before .before .before .before .before .number .kept .0, c .before .before .before .before .before .before .before .before .prepend .ensures .place, c .before .before .before .before .before .before .before .before .prepend .kept .0, c .before .before .before .before .end .ensures .place, c .before .before .before .before .end .kept .0)
 
 end-requires-2 : tie.Need-end-requires-2
 end-requires-2 c κs =
-    omega (arith, decimal-length (c .before .before .before .before .before .before .before .before .before .before .before .before .before .before .before .before .before .before .before .before .args .n), end-length (c .before .before .before .before .before .before .before .before .before .before .before .before .before .before .before .before .before .before .before .before .args .above), c .before .before .before .before .before .before .before .before .before .before .before .before .before .before .before .before .before .number .ensures .place, c .before .before .before .before .before .before .before .before .before .before .before .before .before .before .before .before .before .number .kept .0, c .before .before .before .before .before .before .before .before .before .before .before .before .prepend .ensures .place, c .before .before .before .before .before .before .before .before .before .before .before .before .prepend .kept .0, c .before .before .before .before .before .before .before .before .end .ensures .place, c .before .before .before .before .before .before .before .before .end .kept .0, c .before .before .before .prepend2 .ensures .place, c .before .before .before .prepend2 .kept .0)
+    omega (arith, c .before .before .before .before .before .before .before .before .before .before .before .before .before .before .before .before .before .number .ensures .place, c .before .before .before .before .before .before .before .before .before .before .before .before .before .before .before .before .before .number .kept .0, c .before .before .before .before .before .before .before .before .before .before .before .before .prepend .ensures .place, c .before .before .before .before .before .before .before .before .before .before .before .before .prepend .kept .0, c .before .before .before .before .before .before .before .before .end .ensures .place, c .before .before .before .before .before .before .before .before .end .kept .0, c .before .before .before .prepend2 .ensures .place, c .before .before .before .prepend2 .kept .0)
 
 same-length : tie.Need-same-length
 same-length c = search needs

@@ -1,7 +1,7 @@
 -- `text::write::number`: the digits, last first, until less than ten is left.
 use native.Mathlib.Omega.{arith}
 use lib.ListN.{length-set}
-use Rattle.text.proofs.Writing.{Digits, digits-begin, digits-room, digits-more, digits-end}
+use Rattle.text.proofs.Writing.{decimal-some, Digits, digits-begin, digits-room, digits-more, digits-end}
 use Rattle.text.proofs.write.number.Statement.{statement}
 use Rattle.text.proofs.write.number.Tie as tie
 
@@ -12,7 +12,7 @@ abbrev μ-loop : tie.MeasureT-loop
 μ-loop text₀ at n from₀ left₀ text from left = left
 
 sub-from : tie.Need-sub-from Inv-loop μ-loop
-sub-from c = omega arith
+sub-from c = omega (arith, decimal-some (c .args .n))
 
 loop-holds : tie.Need-loop-holds Inv-loop μ-loop
 loop-holds c = digits-begin _ _ _ (c .pre .0) (c .pre .1) (c .fits .n .fits)

@@ -1,7 +1,7 @@
 -- `text::write::one`: a word in front of a number.
 use borrow.Author.Needs.{needs}
 use native.Mathlib.Omega.{arith}
-use Rattle.text.proofs.Writing.{written-then, decimal-length}
+use Rattle.text.proofs.Writing.{written-then}
 use Rattle.text.proofs.write.one.Statement.{statement}
 use Rattle.text.proofs.write.one.Tie as tie
 
@@ -10,7 +10,7 @@ number-requires c κs = search needs
 
 prepend-requires : tie.Need-prepend-requires
 prepend-requires c κs =
-    omega (arith, decimal-length (c .before .before .before .before .before .before .before .args .n), c .before .before .before .number .ensures .place, c .before .before .before .number .kept .0)
+    omega (arith, c .before .before .before .number .ensures .place, c .before .before .before .number .kept .0)
 
 same-length : tie.Need-same-length
 same-length c = search needs

@@ -3,7 +3,7 @@ use mathlib.Core.List.{append-assoc}
 use borrow.Author.Needs.{needs}
 use native.Mathlib.Omega.{arith}
 use Rattle.text.specs.Words.{ascii}
-use Rattle.text.proofs.Writing.{written-then, decimal-length}
+use Rattle.text.proofs.Writing.{written-then}
 use Rattle.text.proofs.write.two.Statement.{statement}
 use Rattle.text.proofs.write.two.Tie as tie
 
@@ -15,11 +15,11 @@ slice-aggregate-prepend c = search needs
 
 prepend-requires : tie.Need-prepend-requires
 prepend-requires c κs =
-    omega (arith, decimal-length (c .before .before .before .before .before .before .before .before .args .m), c .before .before .before .before .number .ensures .place, c .before .before .before .before .number .kept .0)
+    omega (arith, c .before .before .before .before .number .ensures .place, c .before .before .before .before .number .kept .0)
 
 one-requires : tie.Need-one-requires
 one-requires c κs =
-    omega (arith, decimal-length (c .before .before .before .before .before .before .before .before .before .before .before .before .args .m), c .before .before .before .before .before .before .before .before .number .ensures .place, c .before .before .before .before .before .before .before .before .number .kept .0, c .before .before .before .prepend .ensures .place, c .before .before .before .prepend .kept .0)
+    omega (arith, c .before .before .before .before .before .before .before .before .number .ensures .place, c .before .before .before .before .before .before .before .before .number .kept .0, c .before .before .before .prepend .ensures .place, c .before .before .before .prepend .kept .0)
 
 same-length : tie.Need-same-length
 same-length c = search needs
