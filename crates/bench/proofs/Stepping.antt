@@ -6,7 +6,7 @@ use mathlib.Core.Path.{_≡_, refl, sym, ap, ap₂, _∙_}
 use mathlib.Core.List.{List, [], _∷_, _++_, map}
 use lib.ListN.{length, drop}
 use lib.Dec.{leb}
-use borrow.Author.Tests.{lt-ltb, le-ltb, le-leb, lt-leb, ne-eqb}
+use borrow.Author.Tests.{lt-ltb, le-ltb, ne-eqb}
 use Rattle.member.specs.declared.Reading.{Reading}
 use Rattle.member.specs.declared.Reading.the-variants.{Entry, Gap}
 use Rattle.suite.specs.Suite.{frameOf}
@@ -26,15 +26,6 @@ use Rattle.bench.specs.Bench.{Stepped, stepped, callFor, numbersOf, byte
 -- ---- image out and the answer
 
 module _ (numbers image out answer : List ℕ) where
-  pub fill-short : length out < length image → filled numbers image out answer ≡ stepped 19 out answer
-  unfolding filled
-  fill-short h = rw (lt-leb (length image) (length out) h)
-
-  pub fill-fits : length image ≤ length out
-      → filled numbers image out answer ≡ stepped 0 (image ++ drop (length image) out) (bytesOf numbers ++ drop 16 answer)
-  unfolding filled
-  fill-fits h = rw (le-leb (length image) (length out) h)
-
   pub fill-refused : (n : ℕ) (after : List ℕ) → record { outcome = refused n; bytes = after } ≡ fillOf image out
       → stepped n after answer ≡ filled numbers image out answer
   unfolding fillOf filled

@@ -83,10 +83,10 @@ fn kept(image: &[u8], out: &mut [u8], answer: &mut [u8], numbers: [u32; 4]) -> u
     ensures { λ r. ⌜ stepped r (now (out .exit)) (now (answer .exit))
         ≡ filled numbers (now (image .entry)) (now (out .entry)) (now (answer .entry)) ⌝ }
 {
-    if out.len() < image.len() {
-        return Refusal::Buffer.number();
+    let done = image::fill(image, out);
+    if let Written::No(refusal) = done {
+        return refusal.number();
     }
-    copy(image, out);
     put_numbers(answer, numbers);
     0
 }
@@ -109,17 +109,6 @@ fn written(
     }
     put_numbers(answer, numbers);
     0
-}
-
-fn copy(from: &[u8], to: &mut [u8])
-    requires { ⌜ length (now from) ≤ length (now to) ⌝ }
-    ensures { λ _. ⌜ now (to .exit) ≡ now (from .entry) ++ drop (length (now (from .entry))) (now (to .entry)) ⌝ }
-{
-    let mut i = 0;
-    while i < from.len() {
-        to[i] = from[i];
-        i += 1;
-    }
 }
 
 // The four numbers into the first 16 bytes.

@@ -13,7 +13,7 @@ use Rattle.suite.proofs.Asking.{Done, done-named, done-passed, done-end}
 use Rattle.directory.specs.Lent.{suiteIn}
 use Rattle.directory.proofs.AskPlaces.{firstIn, tile-in, first-tiles, first-drop}
 
-map-set : {A B : Type 0} (f : A → B) (l : List A) (i : ℕ) (a : A) → set (map f l) i (f a) ≡ map f (set l i a)
+pub map-set : {A B : Type 0} (f : A → B) (l : List A) (i : ℕ) (a : A) → set (map f l) i (f a) ≡ map f (set l i a)
 map-set f [] i a = refl
 map-set f (x ∷ l) zero a = refl
 map-set f (x ∷ l) (suc i) a = ap (λ t. f x ∷ t) (map-set f l i a)

@@ -1,8 +1,8 @@
 -- The places gone through one by one: a counted tile is sound, and one that is not is fresh.
-use mathlib.Core.Path.{_≡_, refl, ap}
+use mathlib.Core.Path.{_≡_}
 use mathlib.Core.Bool.{Bool, true, _&&_}
 use mathlib.Core.List.{List, [], map}
-use Prim.Native.Nat.{ℕ, zero, suc, _+_, _-_, _<_, _≤_}
+use Prim.Native.Nat.{ℕ, _+_, _-_, _<_, _≤_}
 use native.Mathlib.Nat.{sub-zero}
 use native.Mathlib.Omega.{arith}
 use lib.ListN.{length, take, drop, getD, length-take, length-map}
@@ -10,6 +10,7 @@ use Rattle.member.specs.Limits.{slots}
 use Rattle.member.specs.Tile.{entries}
 use Rattle.member.specs.Sound.{soundMember}
 use Rattle.tile.specs.Lent.{tileIn, rowsIn}
+use Rattle.tile.proofs.CellsRead.{length-rows}
 use Rattle.suite.specs.Sets.{all}
 use Rattle.suite.specs.Suite.{tiles, isFresh}
 use Rattle.suite.specs.declared.Frame.{Frame}
@@ -17,17 +18,12 @@ use Rattle.suite.proofs.Used.{usedFrom, used-from, used-end, tested-here, Teste
 use Rattle.directory.specs.Lent.{suiteIn}
 use Rattle.directory.proofs.AskPlaces.{tile-in, first-tiles, first-drop}
 
-rows-length : (n : ℕ) (l : List ℕ) → length (rowsIn n l) ≡ n
-unfolding rowsIn
-rows-length zero l = refl
-rows-length (suc n) l = ap suc (rows-length n (drop 4 l))
-
 -- how many entries a tile has
 pub tile-used : (l : List ℕ) → length (entries (tileIn l)) ≡ 0 → getD l 0 0 ≡ 0
-tile-used l e = omega (arith, length-take (getD l 0 0) (rowsIn slots (drop 2 l)), rows-length slots (drop 2 l))
+tile-used l e = omega (arith, length-take (getD l 0 0) (rowsIn slots (drop 2 l)), length-rows slots (drop 2 l))
 
 pub tile-unused : (l : List ℕ) → getD l 0 0 ≡ 0 → length (entries (tileIn l)) ≡ 0
-tile-unused l e = omega (arith, length-take (getD l 0 0) (rowsIn slots (drop 2 l)), rows-length slots (drop 2 l))
+tile-unused l e = omega (arith, length-take (getD l 0 0) (rowsIn slots (drop 2 l)), length-rows slots (drop 2 l))
 
 -- the first n sound, the others fresh
 abbrev pub soundIn : ℕ → List (List ℕ) → Bool

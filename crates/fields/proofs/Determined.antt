@@ -3,7 +3,7 @@
 use Prim.Native.Nat.{ℕ}
 use mathlib.Core.Path.{_≡_, sym, _∙_}
 use mathlib.Core.List.{List}
-use Rattle.fields.specs.Field.{readOf, putOf}
+use Rattle.fields.specs.Field.{readOf, wordOf, appendOf, afterOf}
 use Rattle.fields.specs.declared.Field.{Field}
 
 -- `read`: the answer
@@ -13,9 +13,23 @@ pub read-determined : (bytes : List ℕ) (at width : ℕ) (r s : Field)
     → r ≡ s
 read-determined bytes at width r s p q = p ∙ sym q
 
--- `put`: the lent bytes, all of them
-pub put-determined : (bytes : List ℕ) (at width v : ℕ) (after after′ : List ℕ)
-    → after ≡ putOf bytes at width v
-    → after′ ≡ putOf bytes at width v
+-- `read_word`: the answer
+pub read-word-determined : (bytes : List ℕ) (at width : ℕ) (r s : Field)
+    → r ≡ wordOf bytes at width
+    → s ≡ wordOf bytes at width
+    → r ≡ s
+read-word-determined bytes at width r s p q = p ∙ sym q
+
+-- `append`: the lent bytes, all of them
+pub append-determined : (bytes : List ℕ) (at width v : ℕ) (after after′ : List ℕ)
+    → after ≡ appendOf bytes at width v
+    → after′ ≡ appendOf bytes at width v
     → after ≡ after′
-put-determined bytes at width v after after′ p q = p ∙ sym q
+append-determined bytes at width v after after′ p q = p ∙ sym q
+
+-- `append_after`: the lent bytes, all of them
+pub append-after-determined : (bytes : List ℕ) (at before width v : ℕ) (after after′ : List ℕ)
+    → after ≡ afterOf bytes at before width v
+    → after′ ≡ afterOf bytes at before width v
+    → after ≡ after′
+append-after-determined bytes at before width v after after′ p q = p ∙ sym q

@@ -1,19 +1,20 @@
--- Putting field after field into zeros: what a writer has written so far, and what it has at the end.
+-- Appending field after field to zeros: what a writer has written so far, and what it has at the end.
 -- Assumes nothing.
-use Prim.Native.Nat.{ℕ, _+_, _-_, _*_, _≤_, _<_}
-use native.Mathlib.Nat.{add-sub-of-le}
+use Prim.Native.Nat.{ℕ, _+_, _-_, _*_, _/_, _%_, _≤_, _<_}
+use native.Mathlib.Nat.{add-sub-of-le, zero-add}
 use native.Mathlib.Omega.{arith}
+use mathlib.Core.Bool.{true}
 use mathlib.Core.Path.{_≡_, sym, ap, ap₂, _∙_, subst}
-use mathlib.Core.List.{List, [], _++_, append-assoc}
-use lib.ListN.{length, take, replicate, length-append, length-replicate, replicate-append-replicate}
-use lib.Seq.{take-at, take-all}
-use Rattle.fields.specs.Bits.{fieldBits, bitsOf, putBits, bytesFor, padding, padded, packed, Below}
-use Rattle.fields.specs.Field.{putOf}
+use mathlib.Core.List.{List, [], _++_, append-assoc, append-nil}
+use lib.ListN.{length, take, drop, replicate, length-append, length-replicate, replicate-append-replicate}
+use lib.Seq.{take-at, take-all, take-append-seam}
+use Rattle.fields.specs.Bits.{fieldBits, bitsOf, appendBits, bytesFor, padding, padded, packed, Below}
+use Rattle.fields.specs.Field.{hasWord, appendOf, afterOf}
 use Rattle.fields.proofs.Below.{below-left, below-take}
 use Rattle.fields.proofs.Bytes.{length-bitsOf, bitsOf-below, bitsOf-take, bitsOf-zeros, bitsOf-inj}
-use Rattle.fields.proofs.Places.{putBits-next}
+use Rattle.fields.proofs.Appending.{append-next}
 use Rattle.fields.proofs.Packing.{length-padded, bitsOf-packed, packed-below}
-use Rattle.fields.proofs.Answers.{fits-yes, bitsOf-put}
+use Rattle.fields.proofs.Answers.{has-narrow, has-within, bitsOf-appendOf, after-known}
 
 -- the bytes hold the bits l, and n zero bits behind them
 abbrev pub Filled : List ℕ → List ℕ → ℕ → Type 0
@@ -33,14 +34,38 @@ pub filled-below : (bytes l : List ℕ) (n : ℕ) → Filled bytes l n → Below
 filled-below bytes l n f =
     below-left 2 l (replicate n 0) (subst (λ (b : List ℕ). Below 2 b) f (bitsOf-below bytes))
 
--- one field more
-pub filled-put : (bytes l : List ℕ) (n at w v : ℕ) → Filled bytes l n → at ≡ length l → w ≤ 24 → w ≤ n
-    → Filled (putOf bytes at w v) (l ++ fieldBits w v) (n - w)
-filled-put bytes l n at w v f e h k =
-    let m : 8 * length bytes ≡ length l + n = filled-length bytes l n f in
-    bitsOf-put bytes at w v (fits-yes (length bytes) at w h (omega arith))
-    ∙ ap₂ (λ (b : List ℕ) (i : ℕ). putBits b i w v) (f ∙ ap (λ (i : ℕ). l ++ replicate i 0) (sym (add-sub-of-le k))) e
-    ∙ putBits-next l (n - w) w v
+-- one field more, over bits m that it covers
+filled-over : (bytes l m : List ℕ) (n at w v : ℕ) → Filled bytes (l ++ m) n → at ≡ length l → length m ≤ w
+    → hasWord (length bytes) at w ≡ true
+    → Filled (appendOf bytes at w v) (l ++ fieldBits w v) (length m + n - w)
+filled-over bytes l m n at w v f e c y =
+    let g : bitsOf bytes ≡ l ++ (m ++ replicate n 0) = f ∙ append-assoc l m (replicate n 0) in
+    let s : 8 * length bytes ≡ length l + (length m + n) =
+    filled-length bytes (l ++ m) n f ∙ rw (length-append l m) (omega arith)
+    in
+    let t : length l / 8 + 8 ≤ length bytes = rw e at (has-within (length bytes) at w y) in
+    bitsOf-appendOf bytes at w v y
+    ∙ ap₂ (λ (b : List ℕ) (i : ℕ). appendBits b i w v) g e
+    ∙ append-next l m n w v (has-narrow (length bytes) at w y) c (omega arith)
+
+pub filled-append : (bytes l : List ℕ) (n at w v : ℕ) → Filled bytes l n → at ≡ length l
+    → hasWord (length bytes) at w ≡ true
+    → Filled (appendOf bytes at w v) (l ++ fieldBits w v) (n - w)
+filled-append bytes l n at w v f e y =
+    filled-over bytes l [] n at w v (f ∙ ap (λ (b : List ℕ). b ++ replicate n 0) (sym (append-nil l))) e (omega arith) y
+    ∙ ap (λ (i : ℕ). (l ++ fieldBits w v) ++ replicate (i - w) 0) (zero-add n)
+
+-- and where the last bits of l are told, over them too
+pub filled-after : (bytes l m : List ℕ) (n at before w v : ℕ) → Filled bytes (l ++ m) n → at ≡ length l → length m ≤ w
+    → drop (8 * (at / 8)) l ≡ fieldBits (at % 8) before
+    → hasWord (length bytes) at w ≡ true
+    → Filled (afterOf bytes at before w v) (l ++ fieldBits w v) (length m + n - w)
+filled-after bytes l m n at before w v f e c d y =
+    let t : take at (bitsOf bytes) ≡ l =
+    ap₂ take e (f ∙ append-assoc l m (replicate n 0)) ∙ take-append-seam l (m ++ replicate n 0)
+    in
+    ap bitsOf (after-known bytes at w v before (ap (drop (8 * (at / 8))) t ∙ d))
+    ∙ filled-over bytes l m n at w v f e c y
 
 -- the zeros reach to the end of the last byte
 padding-le : (bytes l : List ℕ) (n : ℕ) → Filled bytes l n → padding (length l) ≤ n

@@ -35,7 +35,7 @@ length-rest : (bytes : List ℕ) (at : ℕ) → at ≤ 8 * length bytes
 length-rest bytes at k = simp (length-drop, length-bitsOf) (omega arith)
 
 -- within the image `read` looks at the bits from its place on
-pub read-from : (bytes : List ℕ) (at w : ℕ) → w ≤ 24 → at ≤ 8 * length bytes
+pub read-from : (bytes : List ℕ) (at w : ℕ) → w ≤ 56 → at ≤ 8 * length bytes
     → readOf bytes at w ≡ frontOf w (drop at (bitsOf bytes))
 read-from bytes at w h k = go (leb w (length (drop at (bitsOf bytes)))) refl
   where

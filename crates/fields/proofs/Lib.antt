@@ -2,6 +2,7 @@ pub mod Below
 pub mod Width
 pub mod Bytes
 pub mod Places
+pub mod Appending
 pub mod Packing
 pub mod Answers
 pub mod Reread
@@ -9,5 +10,5 @@ pub mod Front
 pub mod Filling
 pub mod Determined
 mod Shifts
-mod Four
 mod Within
+mod Storing

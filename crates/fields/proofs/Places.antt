@@ -1,17 +1,16 @@
--- A field at a place of a list of bits: what is read after a put, here and elsewhere, and how a list of bits is taken
--- apart field by field.
+-- A field at a place of a list of bits, and how a list of bits is taken apart field by field.
 -- Assumes nothing.
-use Prim.Native.Nat.{ℕ, _+_, _-_, _%_, _^_, _≤_, _<_}
-use native.Mathlib.Nat.{lt-of-lt-of-le, mod-eq-of-lt, add-zero, add-assoc, min-le-left}
+use Prim.Native.Nat.{ℕ, _+_, _*_, _/_, _%_, _^_, _≤_, _<_}
+use native.Mathlib.Nat.{lt-of-lt-of-le, mod-eq-of-lt, min-le-left}
 use native.Mathlib.Omega.{arith}
-use mathlib.Core.Path.{_≡_, sym, ap, ap₂, _∙_}
-use mathlib.Core.List.{List, _++_, append-assoc}
-use lib.ListN.{length, take, drop, replicate, length-append, length-take, length-drop, take-append-drop, length-replicate, replicate-append-replicate}
-use lib.Seq.{take-at, drop-at, take-append-le, drop-append-le, take-append-seam, drop-append-add, take-add, drop-drop, length-take-le}
-use lib.Pow.{pow-mono}
-use Rattle.fields.specs.Bits.{fieldBits, numOf, fieldAt, putBits, Below}
-use Rattle.fields.proofs.Below.{below-append, below-take, below-drop}
-use Rattle.fields.proofs.Width.{length-fieldBits, fieldBits-below, fieldBits-numOf, numOf-fieldBits, numOf-lt}
+use mathlib.Core.Path.{_≡_, sym, ap, _∙_}
+use mathlib.Core.List.{List, _++_}
+use lib.ListN.{length, take, drop, length-append, length-take, length-drop, take-append-drop}
+use lib.Seq.{take-at, drop-at, take-append-le, drop-append-le, take-add, drop-drop}
+use lib.Pow.{pow-mono, high, low}
+use Rattle.fields.specs.Bits.{fieldBits, numOf, fieldAt, Below}
+use Rattle.fields.proofs.Below.{below-take, below-drop}
+use Rattle.fields.proofs.Width.{length-fieldBits, fieldBits-numOf, numOf-append, numOf-fieldBits, numOf-lt}
 
 -- ---- reading
 
@@ -25,6 +24,26 @@ fieldAt-lt l at w h =
 pub fieldAt-drop : (l : List ℕ) (a b w : ℕ) → fieldAt l (a + b) w ≡ fieldAt (drop a l) b w
 unfolding fieldAt
 fieldAt-drop l a b w = ap (λ (m : List ℕ). numOf (take w m)) (sym (drop-drop b a l))
+
+-- a field of w + u bits is the field of w bits and the field of u bits behind it
+pub fieldAt-add : (l : List ℕ) (at w u : ℕ) → at + (w + u) ≤ length l
+    → fieldAt l at (w + u) ≡ fieldAt l at w * 2 ^ u + fieldAt l (at + w) u
+unfolding fieldAt
+fieldAt-add l at w u h =
+    let e : length (take u (drop (at + w) l)) ≡ u = simp (length-take, length-drop) (omega arith) in
+    ap numOf (take-add w u (drop at l) ∙ ap (λ (r : List ℕ). take w (drop at l) ++ take u r) (drop-drop w at l))
+    ∙ numOf-append (take w (drop at l)) (take u (drop (at + w) l))
+    ∙ ap (λ (n : ℕ). numOf (take w (drop at l)) * 2 ^ n + numOf (take u (drop (at + w) l))) e
+
+pub fieldAt-high : (l : List ℕ) (at w u : ℕ) → Below 2 l → at + (w + u) ≤ length l
+    → fieldAt l at (w + u) / 2 ^ u ≡ fieldAt l at w
+fieldAt-high l at w u b h =
+    ap (λ (x : ℕ). x / 2 ^ u) (fieldAt-add l at w u h) ∙ high (fieldAt l at w) u (fieldAt-lt l (at + w) u b)
+
+pub fieldAt-low : (l : List ℕ) (at w u : ℕ) → Below 2 l → at + (w + u) ≤ length l
+    → fieldAt l at (w + u) % 2 ^ u ≡ fieldAt l (at + w) u
+fieldAt-low l at w u b h =
+    ap (λ (x : ℕ). x % 2 ^ u) (fieldAt-add l at w u h) ∙ low (fieldAt l at w) u (fieldAt-lt l (at + w) u b)
 
 -- what follows the field does not matter, and neither does what stands before its place
 pub fieldAt-left : (l m : List ℕ) (at w : ℕ) → at + w ≤ length l → fieldAt (l ++ m) at w ≡ fieldAt l at w
@@ -54,82 +73,15 @@ pub front-length : (w v : ℕ) (l : List ℕ) → length (fieldBits w v ++ l) �
 front-length w v l =
     length-append (fieldBits w v) l ∙ ap (λ (n : ℕ). n + length l) (length-fieldBits w v)
 
--- any bits begin with the field that is read there
-pub split-field : (w : ℕ) (l : List ℕ) → Below 2 l → w ≤ length l → fieldBits w (fieldAt l 0 w) ++ drop w l ≡ l
+-- the bits at a place are those of the field that is read there, and any bits begin with a field
+pub fieldBits-at : (l : List ℕ) (at w : ℕ) → Below 2 l → at + w ≤ length l
+    → fieldBits w (fieldAt l at w) ≡ take w (drop at l)
 unfolding fieldAt
+fieldBits-at l at w h k =
+    let n : length (take w (drop at l)) ≡ w = simp (length-take, length-drop) (omega arith) in
+    ap (λ (i : ℕ). fieldBits i (numOf (take w (drop at l)))) (sym n)
+    ∙ fieldBits-numOf (take w (drop at l)) (below-take 2 w (drop at l) (below-drop 2 at l h))
+
+pub split-field : (w : ℕ) (l : List ℕ) → Below 2 l → w ≤ length l → fieldBits w (fieldAt l 0 w) ++ drop w l ≡ l
 split-field w l h n =
-    ap (λ (r : List ℕ). r ++ drop w l)
-    (ap (λ (k : ℕ). fieldBits k (numOf (take w l))) (sym (length-take-le w l n))
-    ∙ fieldBits-numOf (take w l) (below-take 2 w l h))
-    ∙ take-append-drop w l
-
--- ---- putting
-
-pub length-putBits : (l : List ℕ) (at w v : ℕ) → at + w ≤ length l → length (putBits l at w v) ≡ length l
-unfolding putBits
-length-putBits l at w v h =
-    simp (length-append, length-take-le at l (omega arith), length-fieldBits, length-drop) (omega arith)
-
-pub putBits-below : (l : List ℕ) (at w v : ℕ) → Below 2 l → Below 2 (putBits l at w v)
-unfolding putBits
-putBits-below l at w v h =
-    below-append 2 (take at l) (fieldBits w v ++ drop (at + w) l) (below-take 2 at l h)
-    (below-append 2 (fieldBits w v) (drop (at + w) l) (fieldBits-below w v) (below-drop 2 (at + w) l h))
-
--- a place counted from a later start; what follows the field
-pub putBits-drop : (l : List ℕ) (a b w v : ℕ) → putBits l (a + b) w v ≡ take a l ++ putBits (drop a l) b w v
-unfolding putBits
-putBits-drop l a b w v =
-    ap₂ (λ (x y : List ℕ). x ++ (fieldBits w v ++ y)) (take-add a b l)
-    (ap (λ (n : ℕ). drop n l) (add-assoc a b w) ∙ sym (drop-drop (b + w) a l))
-    ∙ append-assoc (take a l) (take b (drop a l)) (fieldBits w v ++ drop (b + w) (drop a l))
-
-pub putBits-left : (l m : List ℕ) (at w v : ℕ) → at + w ≤ length l → putBits (l ++ m) at w v ≡ putBits l at w v ++ m
-unfolding putBits
-putBits-left l m at w v h =
-    ap₂ (λ (x y : List ℕ). x ++ (fieldBits w v ++ y)) (take-append-le at l m (omega arith))
-    (drop-append-le (at + w) l m h)
-    ∙ simp append-assoc
-
--- the next field after bits l, in zeros that wait for it
-pub putBits-next : (l : List ℕ) (n w v : ℕ)
-    → putBits (l ++ replicate (w + n) 0) (length l) w v ≡ (l ++ fieldBits w v) ++ replicate n 0
-unfolding putBits
-putBits-next l n w v =
-    ap₂ (λ (x y : List ℕ). x ++ (fieldBits w v ++ y)) (take-append-seam l (replicate (w + n) 0))
-    (drop-append-add l (replicate (w + n) 0) w
-    ∙ ap (λ (r : List ℕ). drop w r) (sym (replicate-append-replicate w n 0))
-    ∙ drop-at (replicate w 0) (replicate n 0) w (length-replicate w 0))
-    ∙ sym (append-assoc l (fieldBits w v) (replicate n 0))
-
--- ---- reading after a put
-
-pub fieldAt-put : (l : List ℕ) (at w v : ℕ) → at + w ≤ length l → fieldAt (putBits l at w v) at w ≡ v % 2 ^ w
-unfolding putBits
-fieldAt-put l at w v h =
-    ap (λ (n : ℕ). fieldAt (putBits l at w v) n w) (sym (add-zero at))
-    ∙ fieldAt-past (take at l) (fieldBits w v ++ drop (at + w) l) at 0 w (length-take-le at l (omega arith))
-    ∙ fieldAt-front w v (drop (at + w) l)
-
-pub fieldAt-before : (l : List ℕ) (at w v a n : ℕ) → at + w ≤ length l → a + n ≤ at
-    → fieldAt (putBits l at w v) a n ≡ fieldAt l a n
-unfolding putBits
-fieldAt-before l at w v a n h k =
-    let e : length (take at l) ≡ at = length-take-le at l (omega arith) in
-    fieldAt-left (take at l) (fieldBits w v ++ drop (at + w) l) a n (omega arith)
-    ∙ sym (fieldAt-left (take at l) (drop at l) a n (omega arith))
-    ∙ ap (λ (r : List ℕ). fieldAt r a n) (take-append-drop at l)
-
-pub fieldAt-after : (l : List ℕ) (at w v a n : ℕ) → at + w ≤ length l → at + w ≤ a
-    → fieldAt (putBits l at w v) a n ≡ fieldAt l a n
-unfolding putBits
-fieldAt-after l at w v a n h k =
-    let j : at + w + (a - (at + w)) ≡ a = omega arith in
-    let e : length (take at l ++ fieldBits w v) ≡ at + w =
-    simp (length-append, length-take-le at l (omega arith), length-fieldBits)
-    in
-    ap₂ (λ (r : List ℕ) (i : ℕ). fieldAt r i n)
-    (sym (append-assoc (take at l) (fieldBits w v) (drop (at + w) l))) (sym j)
-    ∙ fieldAt-past (take at l ++ fieldBits w v) (drop (at + w) l) (at + w) (a - (at + w)) n e
-    ∙ sym (fieldAt-drop l (at + w) (a - (at + w)) n)
-    ∙ ap (λ (i : ℕ). fieldAt l i n) j
+    ap (λ (r : List ℕ). r ++ drop w l) (fieldBits-at l 0 w h (omega arith)) ∙ take-append-drop w l

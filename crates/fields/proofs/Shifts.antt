@@ -1,12 +1,13 @@
--- Part of a word by shifts and a mask, and the bounds that its arithmetic asks.
+-- Part of a word by shifts and a mask, and a word from its parts by shifts.
 -- Assumes nothing.
 use Prim.Native.Nat.{ℕ, _+_, _-_, _*_, _/_, _%_, _^_, _≤_, _<_}
-use native.Mathlib.Nat.{le-trans, lt-of-lt-of-le, one-mul, mod-lt, mod-le, div-one, div-mul-le-self, mul-le-mul-right}
+use native.Mathlib.Nat.{lt-of-lt-of-le, one-mul, mod-lt, div-one}
 use native.Mathlib.Omega.{arith}
 use mathlib.Core.Path.{_≡_, ap, ap₂, _∙_}
+use lib.Arith.{digits-lt}
 use lib.Bits.{bitAnd, and-mask}
-use lib.Pow.{pow-pos, pow-mono, shl-exact, shl-lt}
-use Rattle.fields.specs.Word.{partOf, withPart}
+use lib.Pow.{pow-pos, pow-mono, pow-add, shl-exact, shr-lt}
+use Rattle.fields.specs.Word.{partOf, joinOf, behindOf}
 
 -- a one shifted by less than the word's width is a power of two
 one-shl : (w : ℕ) → w < 64 → 1 * 2 ^ w % 2 ^ 64 ≡ 2 ^ w
@@ -20,50 +21,41 @@ unfolding partOf
 mask-part x after w h =
     ap (λ (m : ℕ). bitAnd (x / 2 ^ after) (m - 1)) (one-shl w h) ∙ and-mask (x / 2 ^ after) w
 
-part-lt : (x after w : ℕ) → partOf x after w < 2 ^ w
-unfolding partOf
-part-lt x after w = mod-lt (x / 2 ^ after) (pow-pos w)
-
-pub part-fits : (x after w r : ℕ) → w ≤ 24 → r ≡ partOf x after w → r < 2 ^ 32
-part-fits x after w r h e =
-    let k : w ≤ 32 = omega arith in rw e (lt-of-lt-of-le (part-lt x after w) (pow-mono k))
-
-part-low : (v w : ℕ) → partOf v 0 w ≡ v % 2 ^ w
+-- the lowest bits need no shift
+pub part-low : (v w : ℕ) → partOf v 0 w ≡ v % 2 ^ w
 unfolding partOf
 part-low v w = ap (λ (x : ℕ). x % 2 ^ w) (div-one v)
 
--- a part put back in its place is no more than the word, and nothing is shifted out
-part-le : (x after w : ℕ) → partOf x after w * 2 ^ after ≤ x
+pub join-lt : (s w before v : ℕ) → before < 2 ^ s → before * 2 ^ w + v % 2 ^ w < 2 ^ (s + w)
+join-lt s w before v h = rw (pow-add 2 s w) (digits-lt h (mod-lt v (pow-pos w)))
+
+-- what `join` asks, of bits before the field that have their room in its first byte
+pub may-join : (at w before after : ℕ) → w ≤ 56 → after ≡ behindOf at w → before < 2 ^ (at % 8)
+    → (w ≤ 56) × ((after < 64) × ((w + after ≤ 64) × (before < 2 ^ (64 - after - w))))
+may-join at w before after n e h =
+    let k : at % 8 ≤ 64 - after - w = omega arith in
+    (n, (omega arith, (omega arith, lt-of-lt-of-le h (pow-mono k))))
+
+pub part-lt : (x after w : ℕ) → partOf x after w < 2 ^ w
 unfolding partOf
-part-le x after w =
-    le-trans (mul-le-mul-right (2 ^ after) (mod-le (x / 2 ^ after) (2 ^ w))) (div-mul-le-self x (2 ^ after))
+part-lt x after w = mod-lt (x / 2 ^ after) (pow-pos w)
 
-part-shl : (x after w : ℕ) → after + w ≤ 32 → partOf x after w * 2 ^ after % 2 ^ 64 ≡ partOf x after w * 2 ^ after
-part-shl x after w k = shl-exact w after 64 (part-lt x after w) (omega arith)
+pub before-lt : (x at : ℕ) → x < 256 → x / 2 ^ (8 - at % 8) < 2 ^ (at % 8)
+before-lt x at h =
+    let e : at % 8 + (8 - at % 8) ≡ 8 = omega arith in
+    shr-lt (at % 8) (8 - at % 8) (rw e h)
 
-low-shl : (v after w : ℕ) → after + w ≤ 32 → v % 2 ^ w * 2 ^ after % 2 ^ 64 ≡ v % 2 ^ w * 2 ^ after
-low-shl v after w k = shl-exact w after 64 (mod-lt v (pow-pos w)) (omega arith)
+-- no shift of `join` loses a bit
+module _ (before after w v new : ℕ) (k : w + after ≤ 64) (h : before < 2 ^ (64 - after - w)) (e : new ≡ partOf v 0 w) where
+  sum-is : before * 2 ^ w % 2 ^ 64 + new ≡ before * 2 ^ w + v % 2 ^ w
+  sum-is = ap₂ (λ (x y : ℕ). x + y) (shl-exact (64 - after - w) w 64 h (omega arith)) (e ∙ part-low v w)
 
-low-lt : (v after w : ℕ) → after + w ≤ 32 → v % 2 ^ w * 2 ^ after < 2 ^ 32
-low-lt v after w k =
-    let e : w + after ≤ 32 = omega arith in
-    lt-of-lt-of-le (shl-lt w after (mod-lt v (pow-pos w))) (pow-mono e)
+  pub join-room : before * 2 ^ w % 2 ^ 64 + new < 2 ^ 64
+  join-room =
+      let n : 64 - after - w + w ≤ 64 = omega arith in
+      rw sum-is (lt-of-lt-of-le (join-lt (64 - after - w) w before v h) (pow-mono n))
 
--- what `with_part` computes of the part that goes and the one that comes
-module _ (x after w v old new : ℕ) (h : x < 2 ^ 32) (k : after + w ≤ 32) (eo : old ≡ partOf x after w)
-    (en : new ≡ partOf v 0 w) where
-  old-shl : old * 2 ^ after % 2 ^ 64 ≡ partOf x after w * 2 ^ after
-  old-shl = ap (λ (y : ℕ). y * 2 ^ after % 2 ^ 64) eo ∙ part-shl x after w k
-
-  new-shl : new * 2 ^ after % 2 ^ 64 ≡ v % 2 ^ w * 2 ^ after
-  new-shl = ap (λ (y : ℕ). y * 2 ^ after % 2 ^ 64) (en ∙ part-low v w) ∙ low-shl v after w k
-
-  pub with-less : old * 2 ^ after % 2 ^ 64 ≤ x
-  with-less = rw old-shl (part-le x after w)
-
-  pub with-room : x - old * 2 ^ after % 2 ^ 64 + new * 2 ^ after % 2 ^ 64 < 2 ^ 64
-  with-room = rw new-shl (omega (arith, low-lt v after w k))
-
-  pub with-is : x - old * 2 ^ after % 2 ^ 64 + new * 2 ^ after % 2 ^ 64 ≡ withPart x after w v
-  unfolding withPart
-  with-is = ap₂ (λ (a b : ℕ). x - a + b) old-shl new-shl
+  pub join-is : (before * 2 ^ w % 2 ^ 64 + new) * 2 ^ after % 2 ^ 64 ≡ joinOf before after w v
+  join-is =
+      ap (λ (x : ℕ). x * 2 ^ after % 2 ^ 64) sum-is
+      ∙ shl-exact (64 - after - w + w) after 64 (join-lt (64 - after - w) w before v h) (omega arith)

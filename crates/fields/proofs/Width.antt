@@ -6,7 +6,8 @@ use native.Mathlib.Numerals.{one-add}
 use native.Mathlib.Omega.{arith}
 use mathlib.Core.Path.{_≡_, refl, sym, ap, ap₂, _∙_}
 use mathlib.Core.List.{List, [], _∷_, _++_}
-use lib.ListN.{length, replicate, length-append}
+use lib.ListN.{length, drop, replicate, length-append}
+use lib.Seq.{drop-at, drop-append-add}
 use lib.Arith.{digits-lt}
 use lib.Pow.{pow-pos, pow-add, shr-shr, mod-pow-add, mod-mod-pow, high, field}
 use Rattle.fields.specs.Bits.{fieldBits, numOf, Below}
@@ -50,11 +51,29 @@ fieldBits-mod j (suc w) v =
 pub fieldBits-low : (w v : ℕ) → fieldBits w (v % 2 ^ w) ≡ fieldBits w v
 fieldBits-low w v = ap (λ (n : ℕ). fieldBits w (v % 2 ^ n)) (sym (zero-add w)) ∙ fieldBits-mod 0 w v
 
+pub fieldBits-above : (j w h v : ℕ) → fieldBits w (h * 2 ^ (j + w) + v) ≡ fieldBits w v
+fieldBits-above j w h v =
+    sym (fieldBits-mod j w (h * 2 ^ (j + w) + v))
+    ∙ ap (λ (x : ℕ). fieldBits w x) (mul-add-mod-self-right h (2 ^ (j + w)) v)
+    ∙ fieldBits-mod j w v
+
 fieldBits-block : (w h v : ℕ) → fieldBits w (h * 2 ^ w + v) ≡ fieldBits w v
 fieldBits-block w h v =
-    sym (fieldBits-low w (h * 2 ^ w + v))
-    ∙ ap (λ (x : ℕ). fieldBits w x) (mul-add-mod-self-right h (2 ^ w) v)
-    ∙ fieldBits-low w v
+    ap (λ (n : ℕ). fieldBits w (h * 2 ^ n + v)) (sym (zero-add w)) ∙ fieldBits-above 0 w h v
+
+-- two fields, the one behind the other, are one field
+pub fieldBits-join : (w u a b : ℕ) → fieldBits (w + u) (a * 2 ^ u + b % 2 ^ u) ≡ fieldBits w a ++ fieldBits u b
+fieldBits-join w u a b =
+    fieldBits-add w u (a * 2 ^ u + b % 2 ^ u)
+    ∙ ap₂ (λ (x : ℕ) (l : List ℕ). fieldBits w x ++ l) (high a u (mod-lt b (pow-pos u)))
+    (fieldBits-block u a (b % 2 ^ u) ∙ fieldBits-low u b)
+
+-- the last bits, where the last field has at least as many
+pub last-bits : (l : List ℕ) (a b v : ℕ) → drop (length l + a) (l ++ fieldBits (a + b) v) ≡ fieldBits b v
+last-bits l a b v =
+    drop-append-add l (fieldBits (a + b) v) a
+    ∙ ap (drop a) (fieldBits-add a b v)
+    ∙ drop-at (fieldBits a (v / 2 ^ b)) (fieldBits b v) a (length-fieldBits a (v / 2 ^ b))
 
 -- ---- the number that bits write
 

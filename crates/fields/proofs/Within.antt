@@ -1,129 +1,119 @@
--- A field of an image by the four bytes around it: what `read` and `put` compute is the field at that place.
+-- A field read by the eight bytes around it: bytes as one number are the field of all their bits, and a part of that
+-- number is the field at its place.
 -- Assumes nothing.
-use Prim.Native.Nat.{ℕ, _+_, _-_, _*_, _/_, _%_, _^_, _≤_, _<_}
-use native.Mathlib.Nat.{add-zero, zero-add, suc-add, mod-lt}
+use Prim.Native.Nat.{ℕ, zero, suc, _+_, _-_, _*_, _/_, _%_, _^_, _≤_, _<_}
+use native.Mathlib.Nat.{mod-one, mod-eq-of-lt}
 use native.Mathlib.Omega.{arith}
 use mathlib.Core.Bool.{true}
-use mathlib.Core.Path.{_≡_, refl, sym, ap, ap₂, _∙_, subst}
+use mathlib.Core.Path.{_≡_, refl, sym, ap, ap₂, _∙_}
 use mathlib.Core.List.{List, [], _∷_, _++_}
-use lib.ListN.{length, getD, take, drop, set, length-set, length-drop, take-append-drop}
-use lib.Seq.{getD-drop, length-take-le}
-use lib.Pow.{pow-pos}
-use Rattle.fields.specs.Bits.{numOf, bitsOf, bytesOf, fieldAt, putBits, Below}
-use Rattle.fields.specs.Word.{wordAt, withWord, partOf, withPart}
-use Rattle.fields.specs.Field.{fitsIn, readOf, putOf}
+use lib.ListN.{length, getD, replicate, length-append, length-replicate}
+use Rattle.fields.specs.Bits.{fieldBits, bitsOf, fieldAt, Below}
+use Rattle.fields.specs.Word.{numberAt, wordAt, partOf, behindOf}
+use Rattle.fields.specs.Field.{fitsIn, readOf, hasWord, wordOf}
 use Rattle.fields.specs.declared.Field.the-variants.{Is}
-use Rattle.fields.proofs.Answers.{fits-narrow, fits-within, read-is, put-is}
-use Rattle.fields.proofs.Below.{below-drop, below-set}
-use Rattle.fields.proofs.Width.{numOf-lt}
-use Rattle.fields.proofs.Bytes.{bitsOf-below, bitsOf-append, bitsOf-take, bitsOf-drop, bytesOf-bitsOf}
-use Rattle.fields.proofs.Places.{fieldAt-drop, putBits-drop}
-use Rattle.fields.proofs.Four.{four, four-is, four-below, length-four, numOf-four, read-front, put-front}
+use Rattle.fields.proofs.Below.{below-append, below-zeros}
+use Rattle.fields.proofs.Width.{length-fieldBits}
+use Rattle.fields.proofs.Bytes.{length-bitsOf, bitsOf-below, bitsOf-append}
+use Rattle.fields.proofs.Places.{fieldAt-add, fieldAt-high, fieldAt-low, fieldAt-left, fieldAt-past, fieldAt-first}
+use Rattle.fields.proofs.Answers.{fits-narrow, fits-within, read-is, has-fits, word-is}
 
--- ---- the word at byte k is the word at the front of what starts there
+-- ---- bytes as one number
 
-word-drop : (l : List ℕ) (k : ℕ) → wordAt l k ≡ wordAt (drop k l) 0
-unfolding wordAt
-word-drop l k = simp (getD-drop, add-zero)
+pub byte-at : (l : List ℕ) (j : ℕ) → Below 256 l → j < length l → fieldAt (bitsOf l) (8 * j) 8 ≡ getD l j 0
+unfolding bitsOf
+byte-at [] j h k = absurd (omega arith)
+byte-at (b ∷ l) zero h k = fieldAt-first 8 b (bitsOf l) (h .0)
+byte-at (b ∷ l) (suc j) h k =
+    let e : 8 * suc j ≡ 8 + 8 * j = omega arith in
+    ap (λ (i : ℕ). fieldAt (fieldBits 8 b ++ bitsOf l) i 8) e
+    ∙ fieldAt-past (fieldBits 8 b) (bitsOf l) 8 (8 * j) 8 (length-fieldBits 8 b)
+    ∙ byte-at l j (h .1) (omega arith)
 
-word-four : (m : List ℕ) → Below 256 m → wordAt m 0 ≡ numOf (bitsOf (four m))
-unfolding wordAt
-word-four m h =
-    sym
-    (ap (λ (l : List ℕ). numOf (bitsOf l)) (four-is m)
-    ∙ numOf-four (getD m 0 0) (getD m 1 0) (getD m 2 0) (getD m 3 0)
-    (subst (λ (l : List ℕ). Below 256 l) (four-is m) (four-below m h)))
+number-bits : (l : List ℕ) (i n : ℕ) → Below 256 l → i + n < length l
+    → numberAt l i n ≡ fieldAt (bitsOf l) (8 * i) (8 * suc n)
+number-bits l i zero h k = sym (byte-at l i h (omega arith))
+number-bits l i (suc n) h k =
+    let e : 8 * (i + suc n) ≡ 8 * i + 8 * suc n = omega arith in
+    let f : 8 * suc n + 8 ≡ 8 * suc (suc n) = omega arith in
+    let b : 8 * i + (8 * suc n + 8) ≤ length (bitsOf l) = rw (length-bitsOf l) (omega arith) in
+    ap₂ (λ (x y : ℕ). x * 256 + y) (number-bits l i n h (omega arith)) (sym (byte-at l (i + suc n) h k))
+    ∙ ap (λ (j : ℕ). fieldAt (bitsOf l) (8 * i) (8 * suc n) * 256 + fieldAt (bitsOf l) j 8) e
+    ∙ sym (fieldAt-add (bitsOf l) (8 * i) (8 * suc n) 8 b)
+    ∙ ap (fieldAt (bitsOf l) (8 * i)) f
 
-word-is : (l : List ℕ) (k : ℕ) → Below 256 l → wordAt l k ≡ numOf (bitsOf (four (drop k l)))
-word-is l k h = word-drop l k ∙ word-four (drop k l) (below-drop 256 k l h)
+-- zeros past the end are what a byte past the end counts as
+getD-zeros : (k j : ℕ) → _≡_ {A = ℕ} (getD (replicate k 0) j 0) 0
+getD-zeros zero j = refl
+getD-zeros (suc k) zero = refl
+getD-zeros (suc k) (suc j) = getD-zeros k j
 
-pub word-lt : (l : List ℕ) (k : ℕ) → Below 256 l → wordAt l k < 2 ^ 32
-word-lt l k h =
-    rw (word-is l k h)
-    (rw (length-four (drop k l)) at (numOf-lt (bitsOf (four (drop k l))) (bitsOf-below (four (drop k l)))))
+getD-padded : (l : List ℕ) (k j : ℕ) → getD (l ++ replicate k 0) j 0 ≡ getD l j 0
+getD-padded [] k j = getD-zeros k j
+getD-padded (x ∷ l) k zero = refl
+getD-padded (x ∷ l) k (suc j) = getD-padded l k j
 
-set-past : (p m : List ℕ) (n i a : ℕ) → n ≡ length p + i → set (p ++ m) n a ≡ p ++ set m i a
-set-past [] m n i a e = ap (λ (j : ℕ). set m j a) (e ∙ zero-add i)
-set-past (x ∷ p) m n i a e =
-    ap (λ (j : ℕ). set (x ∷ p ++ m) j a) (e ∙ suc-add (length p) i)
-    ∙ ap {B = List ℕ} (λ (l : List ℕ). x ∷ l) (set-past p m (length p + i) i a refl)
+number-padded : (l : List ℕ) (k i n : ℕ) → numberAt (l ++ replicate k 0) i n ≡ numberAt l i n
+number-padded l k i zero = getD-padded l k i
+number-padded l k i (suc n) = ap₂ (λ (x y : ℕ). x * 256 + y) (number-padded l k i n) (getD-padded l k (i + suc n))
 
-withWord-past : (p m : List ℕ) (k x : ℕ) → length p ≡ k → withWord (p ++ m) k x ≡ p ++ withWord m 0 x
-unfolding withWord
-withWord-past p m k x e =
-    simp (
-      set-past p m k 0 (x / 2 ^ 24 % 256) (omega arith),
-      set-past p (set m 0 (x / 2 ^ 24 % 256)) (k + 1) 1 (x / 2 ^ 16 % 256) (omega arith),
-      set-past p (set (set m 0 (x / 2 ^ 24 % 256)) 1 (x / 2 ^ 16 % 256)) (k + 2) 2 (x / 2 ^ 8 % 256) (omega arith),
-      set-past p
-          (set (set (set m 0 (x / 2 ^ 24 % 256)) 1 (x / 2 ^ 16 % 256)) 2 (x / 2 ^ 8 % 256))
-          (k + 3)
-          3
-          (x % 256)
-          (omega arith),
-    )
+-- eight bytes, with zeros past the end
+word-bits : (l : List ℕ) (i : ℕ) → Below 256 l → i ≤ length l
+    → wordAt l i ≡ fieldAt (bitsOf (l ++ replicate 8 0)) (8 * i) 64
+word-bits l i h k =
+    let m = l ++ replicate 8 0 in
+    let b = below-append 256 l (replicate 8 0) h (below-zeros 255 8) in
+    let n : length m ≡ length l + 8 = length-append l (replicate 8 0) in
+    let e : 8 * (i + 4) ≡ 8 * i + 32 = omega arith in
+    ap₂ (λ (x y : ℕ). x * 2 ^ 32 + y) (sym (number-padded l 8 i 3) ∙ number-bits m i 3 b (omega arith))
+    (sym (number-padded l 8 (i + 4) 3) ∙ number-bits m (i + 4) 3 b (omega arith) ∙ ap (λ (j : ℕ). fieldAt (bitsOf m) j 32) e)
+    ∙ sym (fieldAt-add (bitsOf m) (8 * i) 32 32 (rw (length-bitsOf m) (omega arith)))
 
-withWord-below : (l : List ℕ) (k x : ℕ) → Below 256 l → Below 256 (withWord l k x)
-unfolding withWord
-withWord-below l k x h =
-    let byte : (y : ℕ) → y % 256 < 256 = λ y. mod-lt y (pow-pos 8) in
-    search (below-set, byte, h)
+-- ---- a part of the number
 
-length-withWord : (l : List ℕ) (k x : ℕ) → length (withWord l k x) ≡ length l
-unfolding withWord
-length-withWord l k x = simp length-set
+part-field : (b : List ℕ) (at s w r : ℕ) → Below 2 b → at + (s + w + r) ≤ length b
+    → partOf (fieldAt b at (s + w + r)) r w ≡ fieldAt b (at + s) w
+unfolding partOf
+part-field b at s w r h k =
+    ap (λ (x : ℕ). x % 2 ^ w) (fieldAt-high b at (s + w) r h k) ∙ fieldAt-low b at s w h (omega arith)
 
--- ---- a field at bit `at`, by the word at byte at / 8
+-- a field without bits is 0 however the word is shifted
+part-behind : (x r w : ℕ) → r + w ≤ 64 → partOf x (r % 64) w ≡ partOf x r w
+unfolding partOf
+part-behind x r zero h = mod-one (x / 2 ^ (r % 64)) ∙ sym (mod-one (x / 2 ^ r))
+part-behind x r (suc w) h = ap (λ (k : ℕ). x / 2 ^ k % 2 ^ suc w) (mod-eq-of-lt (omega arith))
 
-module _ (l : List ℕ) (at w : ℕ) (h : Below 256 l) (n : w ≤ 24) (k : at + w ≤ 8 * length l) where
-  place : 8 * (at / 8) + at % 8 ≡ at
-  place = omega arith
+module _ (l : List ℕ) (at w r : ℕ) (h : Below 256 l) (n : at % 8 + w + r ≡ 64) (k : at + w ≤ 8 * length l) where
+  room : 8 * (at / 8) + (at % 8 + w + r) ≤ length (bitsOf (l ++ replicate 8 0))
+  room = simp (length-bitsOf, length-append, length-replicate) (omega arith)
 
-  left : 32 ≡ at % 8 + (w + (32 - at % 8 - w))
-  left = omega arith
+  word-field : wordAt l (at / 8) ≡ fieldAt (bitsOf (l ++ replicate 8 0)) (8 * (at / 8)) (at % 8 + w + r)
+  word-field =
+      word-bits l (at / 8) h (omega arith) ∙ ap (fieldAt (bitsOf (l ++ replicate 8 0)) (8 * (at / 8))) (sym n)
 
-  inside : at % 8 + w ≤ 8 * length (drop (at / 8) l)
-  inside = simp length-drop (omega arith)
+  field-part : partOf (wordAt l (at / 8)) r w ≡ fieldAt (bitsOf l) at w
+  field-part =
+      let p : 8 * (at / 8) + at % 8 ≡ at = omega arith in
+      ap (λ (x : ℕ). partOf x r w) word-field
+      ∙ part-field (bitsOf (l ++ replicate 8 0)) (8 * (at / 8)) (at % 8) w r (bitsOf-below (l ++ replicate 8 0)) room
+      ∙ ap₂ (λ (b : List ℕ) (i : ℕ). fieldAt b i w) (bitsOf-append l (replicate 8 0)) p
+      ∙ fieldAt-left (bitsOf l) (bitsOf (replicate 8 0)) at w (rw (length-bitsOf l) k)
 
-  read-within : fieldAt (bitsOf l) at w ≡ partOf (wordAt l (at / 8)) (32 - at % 8 - w) w
-  read-within =
-      ap (λ (i : ℕ). fieldAt (bitsOf l) i w) (sym place)
-      ∙ fieldAt-drop (bitsOf l) (8 * (at / 8)) (at % 8) w
-      ∙ ap (λ (b : List ℕ). fieldAt b (at % 8) w) (sym (bitsOf-drop (at / 8) l))
-      ∙ read-front (drop (at / 8) l) (at % 8) w (32 - at % 8 - w) left inside
-      ∙ ap (λ (x : ℕ). partOf x (32 - at % 8 - w) w) (sym (word-is l (at / 8) h))
+read-within : (l : List ℕ) (at w : ℕ) → Below 256 l → w ≤ 56 → at + w ≤ 8 * length l
+    → partOf (wordAt l (at / 8)) (behindOf at w) w ≡ fieldAt (bitsOf l) at w
+read-within l at w h n k =
+    part-behind (wordAt l (at / 8)) (64 - at % 8 - w) w (omega arith)
+    ∙ field-part l at w (64 - at % 8 - w) h (omega arith) k
 
-  put-bits : (v x : ℕ) → x ≡ withPart (wordAt l (at / 8)) (32 - at % 8 - w) w v
-      → bitsOf (withWord l (at / 8) x) ≡ putBits (bitsOf l) at w v
-  put-bits v x e =
-      let front = take (at / 8) l in
-      let rest = drop (at / 8) l in
-      ap (λ (m : List ℕ). bitsOf (withWord m (at / 8) x)) (sym (take-append-drop (at / 8) l))
-      ∙ ap bitsOf (withWord-past front rest (at / 8) x (length-take-le (at / 8) l (omega arith)))
-      ∙ bitsOf-append front (withWord rest 0 x)
-      ∙ ap₂ (λ (a b : List ℕ). a ++ b) (bitsOf-take (at / 8) l)
-      (put-front rest (at % 8) w (32 - at % 8 - w) left inside v x
-      (e ∙ ap (λ (y : ℕ). withPart y (32 - at % 8 - w) w v) (word-is l (at / 8) h))
-      ∙ ap (λ (b : List ℕ). putBits b (at % 8) w v) (bitsOf-drop (at / 8) l))
-      ∙ sym (putBits-drop (bitsOf l) (8 * (at / 8)) (at % 8) w v)
-      ∙ ap (λ (i : ℕ). putBits (bitsOf l) i w v) place
+-- ---- what `read` and `read_word` answer
 
-  put-within : (v x : ℕ) → x ≡ withPart (wordAt l (at / 8)) (32 - at % 8 - w) w v
-      → withWord l (at / 8) x ≡ bytesOf (length l) (putBits (bitsOf l) at w v)
-  put-within v x e =
-      sym (bytesOf-bitsOf (withWord l (at / 8) x) (withWord-below l (at / 8) x h))
-      ∙ ap₂ (λ (i : ℕ) (b : List ℕ). bytesOf i b) (length-withWord l (at / 8) x) (put-bits v x e)
+module _ (l : List ℕ) (at w x : ℕ) (h : Below 256 l) (p : x ≡ partOf (wordAt l (at / 8)) (behindOf at w) w) where
+  field-met : fitsIn (length l) at w ≡ true → Is x ≡ Is (fieldAt (bitsOf l) at w)
+  field-met e =
+      ap Is (p ∙ read-within l at w h (fits-narrow (length l) at w e) (fits-within (length l) at w e))
 
--- ---- what `read` and `put` answer
+  pub read-met : fitsIn (length l) at w ≡ true → Is x ≡ readOf l at w
+  read-met e = field-met e ∙ sym (read-is l at w e)
 
-module _ (l : List ℕ) (at w : ℕ) (h : Below 256 l) (e : fitsIn (length l) at w ≡ true) where
-  pub read-met : (x : ℕ) → x ≡ partOf (wordAt l (at / 8)) (32 - at % 8 - w) w → Is x ≡ readOf l at w
-  read-met x p =
-      ap Is (p ∙ sym (read-within l at w h (fits-narrow (length l) at w e) (fits-within (length l) at w e)))
-      ∙ sym (read-is l at w e)
-
-  pub put-met : (v x : ℕ) → x ≡ withPart (wordAt l (at / 8)) (32 - at % 8 - w) w v
-      → withWord l (at / 8) x ≡ putOf l at w v
-  put-met v x p =
-      put-within l at w h (fits-narrow (length l) at w e) (fits-within (length l) at w e) v x p
-      ∙ sym (put-is l at w v e)
+  pub word-met : hasWord (length l) at w ≡ true → Is x ≡ wordOf l at w
+  word-met e = field-met (has-fits (length l) at w e) ∙ sym (word-is l at w e)

@@ -28,9 +28,16 @@ bytesOf (suc n) l = numOf (take 8 l) ∷ bytesOf n (drop 8 l)
 unfoldable pub fieldAt : List ℕ → ℕ → ℕ → ℕ
 fieldAt l at w = numOf (take w (drop at l))
 
--- the bits with the field of w bits at bit `at` replaced by v, and every other bit as it was
-unfoldable pub putBits : List ℕ → ℕ → ℕ → ℕ → List ℕ
-putBits l at w v = take at l ++ (fieldBits w v ++ drop (at + w) l)
+-- the bits with the w lowest of v from bit `at` on, and zeros behind them to the end of the eight bytes in which they begin
+unfoldable pub appendBits : List ℕ → ℕ → ℕ → ℕ → List ℕ
+appendBits l at w v =
+    take at l ++ (fieldBits w v ++ (replicate (64 - at % 8 - w) 0 ++ drop (8 * (at / 8 + 8)) l))
+
+-- the same with the bits before the field, in its first byte, put too: the lowest of `before`
+unfoldable pub afterBits : List ℕ → ℕ → ℕ → ℕ → ℕ → List ℕ
+afterBits l at before w v =
+    take (8 * (at / 8)) l
+    ++ (fieldBits (at % 8) before ++ (fieldBits w v ++ (replicate (64 - at % 8 - w) 0 ++ drop (8 * (at / 8 + 8)) l)))
 
 -- how many bytes hold n bits, and how many bits are left over in the last of them
 unfoldable pub bytesFor : ℕ → ℕ

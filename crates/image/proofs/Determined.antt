@@ -50,6 +50,10 @@ pub write-unchecked-determined : (f : Frame) (tiles : List (List ℕ)) (out : Li
 write-unchecked-determined f tiles out r r′ after after′ p q =
     lent-determined (fillOf (imageOf (suiteIn f tiles)) out) r r′ after after′ p q
 
+pub fill-determined : (image out : List ℕ) (r r′ : Written) (after after′ : List ℕ)
+    → lentOf r after ≡ fillOf image out → lentOf r′ after′ ≡ fillOf image out → (r ≡ r′) × (after ≡ after′)
+fill-determined image out r r′ after after′ p q = lent-determined (fillOf image out) r r′ after after′ p q
+
 -- an answer, the frame and the lent tiles beside it
 pub read-determined : (image : List ℕ) (lent : List (List ℕ)) (r r′ : Loaded) (after after′ : List (List ℕ)) → Tiles after → Tiles after′
     → loadedIn r after ≡ loadOf image lent

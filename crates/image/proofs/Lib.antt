@@ -11,6 +11,7 @@ mod Putting
 mod Writing
 mod Reading
 mod Rows
+mod Words
 mod Voting
 mod Tiles
 mod Loads

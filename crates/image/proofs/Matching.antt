@@ -92,7 +92,7 @@ module _ (image : List ℕ) (w : ℕ) (narrow : w ≤ 24) where
   unfolding bitsIn
   field-back v at l h k =
       let b : drop at (bitsOf image) ≡ fieldBits w v ++ l = k .rest ∙ append-assoc (fieldBits w v) [] l in
-      let e : readOf image at w ≡ Is v = read-from image at w narrow (k .within) ∙ ap (frontOf w) b ∙ front-field w v l h in
+      let e : readOf image at w ≡ Is v = read-from image at w (omega arith) (k .within) ∙ ap (frontOf w) b ∙ front-field w v l h in
       let n : length (drop at (bitsOf image)) ≡ w + length l = ap length b ∙ front-length w v l in
       let s : at + length (drop at (bitsOf image)) ≡ 8 * length image = simp (length-drop, length-bitsOf) (omega (arith, k .within)) in
       record {

@@ -1,6 +1,6 @@
 -- The members that can be written and read back are the sound ones.
 -- Assumes nothing.
-use Prim.Native.Nat.{ℕ, zero, suc, _-_, _^_, _≤_, _<_}
+use Prim.Native.Nat.{ℕ, suc, _-_, _^_, _≤_, _<_}
 use native.Mathlib.Omega.{arith}
 use mathlib.Core.Bool.{true, _&&_, and-eq-true-iff}
 use mathlib.Core.Path.{_≡_, refl, sym, ap, ap₂, subst, _∙_}
@@ -13,7 +13,7 @@ use Rattle.member.specs.Limits.{largestName, slots}
 use Rattle.member.specs.Tile.{none, entries, unused}
 use Rattle.member.specs.Sound.{isNone, allNone, soundMember}
 use Rattle.member.specs.AscendLaws.{InRange, Ascends, asc-nil, asc-cons, asc-parts}
-use Rattle.member.specs.SoundLaws.{sound-parts, sound-of}
+use Rattle.member.specs.SoundLaws.{none-replicate, sound-parts, sound-of}
 use Rattle.member.specs.declared.Row.{Row}
 use Rattle.member.specs.declared.Member.{Member}
 use Rattle.image.specs.Layout.{nameWidth}
@@ -45,11 +45,6 @@ nones [] h = refl
 nones (r ∷ l) h =
     let p = and-eq-true-iff (isNone r) (allNone l) .0 h in
     ap₂ {C = List Row} (λ (a : Row) (b : List Row). a ∷ b) (none-is r (p .0)) (nones l (p .1))
-
-nones-all : (n : ℕ) → allNone (replicate n none) ≡ true
-unfolding allNone isNone
-nones-all zero = refl
-nones-all (suc n) = nones-all n
 
 -- ---- entries
 
@@ -116,7 +111,7 @@ module _ (w : ℕ) (names : 2 ^ w ≡ suc largestName) where
               count-max = k;
               low-max = omega arith;
               ascending = rw (take-append-seam l z) (each-ascends 0 l r);
-              blank = rw (drop-append-seam l z) (nones-all (slots - length l));
+              blank = rw (drop-append-seam l z) (none-replicate (slots - length l));
             },
         length-append l z ∙ rw (length-replicate (slots - length l) none) (omega arith),
       )

@@ -3,10 +3,10 @@
 use Prim.Native.Nat.{ℕ, zero, suc, _+_, _-_, _≤_, _<_}
 use native.Mathlib.Omega.{arith}
 use native.Mathlib.Nat.{sub-zero, suc-sub-suc}
-use mathlib.Core.Path.{_≡_, refl, sym, ap, _∙_}
+use mathlib.Core.Path.{_≡_, refl, sym, ap, ap₂, _∙_}
 use mathlib.Core.List.{List, [], _∷_, _++_, append-assoc, append-nil}
-use lib.ListN.{length, take, drop, set, replicate, length-append}
-use lib.Seq.{set-at, take-at, drop-append-add}
+use lib.ListN.{length, getD, take, drop, set, replicate, length-append}
+use lib.Seq.{set-at, take-at, drop-append-add, getD-append-seam}
 use Rattle.image.specs.Reader.{Taken, took, fault, then, several, each}
 
 -- what is read next goes behind what was read before
@@ -78,7 +78,7 @@ module _ {A : Type 0} (read : ℕ → ℕ → Taken A) (next : A → ℕ) where
 -- ---- into an array of eight
 
 -- a place more is taken, of n places of which those that are free hold d
-place-more : {A : Type 0} (n : ℕ) (done : List A) (d a : A) → length done < n
+pub place-more : {A : Type 0} (n : ℕ) (done : List A) (d a : A) → length done < n
     → set (done ++ replicate (n - length done) d) (length done) a ≡ (done ++ (a ∷ [])) ++ replicate (n - length (done ++ (a ∷ []))) d
 place-more n done d a h =
     let e : n - length done ≡ suc (n - (length done + 1)) = omega arith in
@@ -113,6 +113,14 @@ module _ {A : Type 0} (read : ℕ → Taken A) (d : A) (k at₀ : ℕ) (few : k 
           ∙ place-more 8 (s .done) d a (omega (arith, s .so-far .many));
       so-far = far-more (λ x. read) (λ b. 0) k 0 at₀ (s .done) 0 at i n a (s .so-far) h e;
     }
+
+    -- the next place is free
+    pub places-next : (e : A) → i < k → getD places i e ≡ d
+    places-next e h =
+        let n : 8 - length (s .done) ≡ suc (8 - (i + 1)) = omega (arith, s .so-far .many) in
+        ap (λ (l : List A). getD l i e) (s .holds)
+        ∙ ap₂ (λ (m j : ℕ). getD (s .done ++ replicate m d) j e) n (sym (s .so-far .many))
+        ∙ getD-append-seam (s .done) d (replicate (8 - (i + 1)) d) e
 
     pub places-fault : (f : ℕ) → i < k → fault f ≡ read at → each read k at₀ ≡ fault f
     unfolding each

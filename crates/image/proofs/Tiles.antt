@@ -1,21 +1,17 @@
 -- Reading members into lent tiles, one after another.
 -- Assumes nothing.
-use Prim.Native.Nat.{ℕ, zero, suc, _+_, _≤_, _<_}
-use mathlib.Core.Path.{_≡_, refl, ap, subst}
-use mathlib.Core.List.{List, [], _∷_, map}
-use lib.ListN.{set}
+use Prim.Native.Nat.{ℕ, _+_, _≤_, _<_}
+use mathlib.Core.Path.{_≡_, sym, subst, _∙_}
+use mathlib.Core.List.{List, [], map}
+use lib.ListN.{getD, set, List·getD-map}
 use Rattle.member.specs.Tile.{freshTile}
 use Rattle.member.specs.declared.Member.{Member}
 use Rattle.tile.specs.Lent.{tileIn}
 use Rattle.suite.specs.declared.Frame.{Frame}
 use Rattle.directory.specs.Lent.{suiteIn}
+use Rattle.directory.proofs.AskChange.{map-set}
 use Rattle.image.specs.Reader.{took, fault, then, readMember, readMembers}
-use Rattle.image.proofs.Reading.{PlacesSoFar, places-more, places-fault, places-end, places-are}
-
-map-set : {A B : Type 0} (f : A → B) (l : List A) (i : ℕ) (a : A) → set (map f l) i (f a) ≡ map f (set l i a)
-map-set f [] i a = refl
-map-set f (x ∷ l) zero a = refl
-map-set f (x ∷ l) (suc i) a = ap (λ t. f x ∷ t) (map-set f l i a)
+use Rattle.image.proofs.Reading.{PlacesSoFar, places-next, places-more, places-fault, places-end, places-are}
 
 -- f is the frame beside the tiles, `was` what they held before
 module _ (image : List ℕ) (f : Frame) (at₀ : ℕ) (few : f .count ≤ 8) (lent : List (List ℕ)) (at i : ℕ)
@@ -25,6 +21,10 @@ module _ (image : List ℕ) (f : Frame) (at₀ : ℕ) (few : f .count ≤ 8) (le
   tiles-more n t h e =
       subst (λ (l : List Member). PlacesSoFar (readMember image 20) freshTile (f .count) at₀ l n (i + 1)) (map-set tileIn lent i t)
       (places-more (readMember image 20) freshTile (f .count) at₀ few (map tileIn lent) at i s n (tileIn t) h e)
+
+  pub tiles-next : i < f .count → tileIn (getD lent i []) ≡ freshTile
+  tiles-next h =
+      sym (List·getD-map tileIn lent i []) ∙ places-next (readMember image 20) freshTile (f .count) at₀ few (map tileIn lent) at i s (tileIn []) h
 
   pub tiles-fault : (was : List (List ℕ)) (n : ℕ) → i < f .count → fault n ≡ readMember image 20 at
       → fault n ≡ readMembers image 20 (suiteIn f was) at₀

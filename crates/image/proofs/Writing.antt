@@ -1,33 +1,24 @@
--- The writer as a whole: every field of a suite, put into zeros, and the image copied into the lent bytes.
+-- The writer as a whole: every field of a suite, appended from the first bit on, and the image copied into the lent bytes.
 -- Assumes nothing.
 use Prim.Native.Nat.{ℕ, zero, suc, _+_, _-_, _*_, _/_, _%_, _^_, _≤_, _<_}
-use native.Mathlib.Nat.{sub-zero}
 use native.Mathlib.Omega.{arith}
-use mathlib.Core.Bool.{Bool, true}
-use mathlib.Core.Path.{_≡_, refl, sym, ap, ap₂, _∙_}
-use mathlib.Core.List.{List, [], _∷_, _++_, append-assoc, append-nil, map, flatMap}
-use lib.ListN.{length, take, drop, replicate, length-append, length-replicate, length-take, length-map}
-use lib.Dec.{leb}
-use borrow.Author.Tests.{leb-true, le-leb, lt-leb}
-use Rattle.fields.specs.Bits.{fieldBits, putBits, bytesFor, Below}
-use Rattle.fields.specs.Field.{putOf}
+use mathlib.Core.Path.{_≡_, refl, sym, ap, subst, _∙_}
+use mathlib.Core.List.{List, [], _∷_, _++_, flatMap}
+use lib.ListN.{length, take, drop, replicate, length-replicate}
+use borrow.Author.Tests.{le-leb, lt-leb}
+use Rattle.fields.specs.Bits.{appendBits, bytesFor}
+use Rattle.fields.specs.Field.{appendOf}
 use Rattle.fields.proofs.Below.{below-zeros}
-use Rattle.fields.proofs.Width.{length-fieldBits, fieldBits-low}
-use Rattle.fields.proofs.Answers.{put-below}
-use Rattle.fields.proofs.Filling.{Filled, filled-none, filled-put, filled-packed}
-use Rattle.member.specs.Tile.{entries}
-use Rattle.suite.specs.Sets.{all}
-use Rattle.suite.specs.Suite.{tiles, ballots, ballotsIn}
+use Rattle.fields.proofs.Width.{fieldBits-low}
+use Rattle.fields.proofs.Answers.{length-appendOf}
+use Rattle.fields.proofs.Filling.{filled-none, filled-packed}
+use Rattle.suite.specs.Suite.{tiles, ballots}
 use Rattle.suite.specs.Outcome.{answered}
 use Rattle.suite.specs.declared.Suite.{Suite}
-use Rattle.suite.specs.declared.Frame.{Frame}
-use Rattle.tile.specs.Lent.{tileIn}
-use Rattle.directory.specs.Lent.{suiteIn}
-use Rattle.image.specs.Layout.{Piece, rowPieces, votePieces, memberPieces, suitePieces, bitsIn, widths, longest, imageOf}
-use Rattle.image.specs.Writer.{putAll, untouched, fillOf}
-use Rattle.image.proofs.All.{all-cons, all-append}
-use Rattle.image.proofs.Lengths.{length-bitsIn, widths-append, length-image, suite-widths}
-use Rattle.image.proofs.Putting.{putAll-append, length-putAll}
+use Rattle.image.specs.Layout.{Piece, votePieces, memberPieces, suitePieces, bitsIn, widths, imageOf}
+use Rattle.image.specs.Writer.{Holds, Appended, untouched, fillOf}
+use Rattle.image.proofs.Lengths.{length-bitsIn, widths-append}
+use Rattle.image.proofs.Putting.{appended-field, appended-both}
 
 -- ---- the fields of a suite, in their places
 
@@ -39,104 +30,70 @@ take-used n k l e = ap (λ (i : ℕ). take i l) e ∙ go n l
     go (suc m) [] = refl
     go (suc m) (x ∷ b) = ap (λ t. x ∷ t) (go m b)
 
--- each of the tiles has its votes
-pub tiles-counted : (f : Frame) (l : List (List ℕ)) → length (f .votes) ≡ 8 → length l ≡ 8 → length (ballotsIn f) ≡ length (tiles (suiteIn f l))
-tiles-counted f l v e =
-    omega (arith, length-take (f .count) (f .votes), length-take (f .count) (map tileIn l), length-map l tileIn)
-
 -- a field keeps the lowest bits of its number
-put-low : (bytes : List ℕ) (at w v : ℕ) → putOf bytes at w (v % 2 ^ w) ≡ putOf bytes at w v
-unfolding putOf putBits
-put-low bytes at w v = rw (fieldBits-low w v)
+append-low : (bytes : List ℕ) (at w v : ℕ) → appendOf bytes at w (v % 2 ^ w) ≡ appendOf bytes at w v
+unfolding appendOf appendBits
+append-low bytes at w v = rw (fieldBits-low w v)
 
-pub suite-put : (s : Suite) (bytes b₁ b₂ b₃ head after done : List ℕ) (n less next end : ℕ) → n ≡ length (tiles s)
+pub suite-put : (s : Suite) (bytes b₁ b₂ b₃ head after done : List ℕ) (n less next end : ℕ) → 128 ≤ 8 * length bytes → n ≡ length (tiles s)
     → n ≡ length (ballots s)
     → less ≡ (s .count - 1) % 8
-    → b₁ ≡ putOf bytes 0 4 1
-    → b₂ ≡ putOf b₁ 4 3 less
-    → b₃ ≡ putOf b₂ 7 7 (s .read)
-    → head ≡ putOf b₃ 14 7 (s .write)
-    → next ≡ 21 + widths (flatMap votePieces (take n (s .votes))) → after ≡ putAll head 21 (flatMap votePieces (take n (s .votes)))
+    → b₁ ≡ appendOf bytes 0 4 1
+    → b₂ ≡ appendOf b₁ 4 3 less
+    → b₃ ≡ appendOf b₂ 7 7 (s .read)
+    → head ≡ appendOf b₃ 14 7 (s .write)
+    → next ≡ 21 + widths (flatMap votePieces (take n (s .votes))) → Appended head 21 (flatMap votePieces (take n (s .votes))) after
     → end ≡ next + widths (flatMap (memberPieces 20) (take n (s .members)))
-    → done ≡ putAll after next (flatMap (memberPieces 20) (take n (s .members)))
-    → (end ≡ widths (suitePieces 20 s)) × (done ≡ putAll bytes 0 (suitePieces 20 s))
-unfolding suitePieces widths putAll
-suite-put s bytes b₁ b₂ b₃ head after done n less next end et eb el e₁ e₂ e₃ eh en ea ee ed =
+    → Appended after next (flatMap (memberPieces 20) (take n (s .members))) done
+    → (end ≡ widths (suitePieces 20 s)) × Appended bytes 0 (suitePieces 20 s) done
+unfolding suitePieces widths
+suite-put s bytes b₁ b₂ b₃ head after done n less next end room et eb el e₁ e₂ e₃ eh en ea ee ed =
     let votes = flatMap votePieces (ballots s) in
     let members = flatMap (memberPieces 20) (tiles s) in
     let fv : flatMap votePieces (take n (s .votes)) ≡ votes = ap (flatMap votePieces) (take-used (s .count) n (s .votes) eb) in
     let fm : flatMap (memberPieces 20) (take n (s .members)) ≡ members = ap (flatMap (memberPieces 20)) (take-used (s .count) n (s .members) et) in
-    let low : b₂ ≡ putOf (putOf bytes 0 4 1) 4 3 (s .count - 1) =
-    e₂ ∙ ap₂ (λ (b : List ℕ) (v : ℕ). putOf b 4 3 v) e₁ el ∙ put-low (putOf bytes 0 4 1) 4 3 (s .count - 1)
-    in
     let nv : next ≡ 21 + widths votes = en ∙ ap (λ (l : List Piece). 21 + widths l) fv in
-    let nm : end ≡ next + widths members = ee ∙ ap (λ (l : List Piece). next + widths l) fm in (
+    let nm : end ≡ next + widths members = ee ∙ ap (λ (l : List Piece). next + widths l) fm in
+    let low : b₂ ≡ appendOf b₁ 4 3 (s .count - 1) = e₂ ∙ ap (appendOf b₁ 4 3) el ∙ append-low b₁ 4 3 (s .count - 1) in
+    let l₁ : length b₁ ≡ length bytes = ap length e₁ ∙ length-appendOf bytes 0 4 1 in
+    let l₂ : length b₂ ≡ length b₁ = ap length low ∙ length-appendOf b₁ 4 3 (s .count - 1) in
+    let l₃ : length b₃ ≡ length b₂ = ap length e₃ ∙ length-appendOf b₂ 7 7 (s .read) in
+    let av : Appended head 21 votes after = subst (λ (l : List Piece). Appended head 21 l after) fv ea in
+    let am : Appended after next members done = subst (λ (l : List Piece). Appended after next l done) fm ed in (
       rw (widths-append votes members) (omega arith),
-      ed
-          ∙ ap₂ (λ (b : List ℕ) (l : List Piece). putAll b next l) (ea ∙ ap (putAll head 21) fv) fm
-          ∙ ap (λ (k : ℕ). putAll (putAll head 21 votes) k members) nv
-          ∙ sym (putAll-append votes members head 21)
-          ∙ ap (λ (b : List ℕ). putAll b 21 (votes ++ members)) (eh ∙ ap (λ (b : List ℕ). putOf b 14 7 (s .write)) (e₃ ∙ ap (λ (b : List ℕ). putOf b 7 7 (s .read)) low)),
+      appended-both ((4, 1) ∷ []) _ bytes b₁ done 0 4 (appended-field bytes b₁ 0 4 1 (omega arith) (omega arith) e₁) refl
+          (appended-both ((3, s .count - 1) ∷ []) _ b₁ b₂ done 4 7 (appended-field b₁ b₂ 4 3 (s .count - 1) (omega arith) (omega arith) low) refl
+          (appended-both ((7, s .read) ∷ []) _ b₂ b₃ done 7 14 (appended-field b₂ b₃ 7 7 (s .read) (omega arith) (omega arith) e₃) refl
+          (appended-both ((7, s .write) ∷ []) _ b₃ head done 14 21 (appended-field b₃ head 14 7 (s .write) (omega arith) (omega arith) eh) refl
+          (appended-both votes members head after done 21 next av nv am)))),
     )
-
--- ---- into zeros
-
-abbrev narrow : Piece → Bool
-narrow p = leb (p .0) 24
-
-filled-all : (l : List Piece) (bytes bits : List ℕ) (n at : ℕ) → Filled bytes bits n → at ≡ length bits → all narrow l ≡ true → widths l ≤ n
-    → Filled (putAll bytes at l) (bits ++ bitsIn l) (n - widths l)
-unfolding putAll bitsIn widths
-filled-all [] bytes bits n at f e h k =
-    f ∙ ap₂ (λ (b : List ℕ) (i : ℕ). b ++ replicate i 0) (sym (append-nil bits)) (sym (sub-zero n))
-filled-all (p ∷ l) bytes bits n at f e h k =
-    let w = p .0 in
-    let q = all-cons narrow p l h in
-    let g = filled-put bytes bits n at w (p .1) f e (leb-true w 24 (q .0)) (omega arith) in
-    let m : at + w ≡ length (bits ++ fieldBits w (p .1)) = rw (length-append bits (fieldBits w (p .1)), length-fieldBits w (p .1)) (ap (λ (i : ℕ). i + w) e) in
-    let r = filled-all l (putOf bytes at w (p .1)) (bits ++ fieldBits w (p .1)) (n - w) (at + w) g m (q .1) (omega arith) in
-    let d : n - w - widths l ≡ n - (w + widths l) = omega arith in
-    r ∙ ap₂ (λ (b : List ℕ) (i : ℕ). b ++ replicate i 0) (append-assoc bits (fieldBits w (p .1)) (bitsIn l)) d
-
-below-all : (l : List Piece) (bytes : List ℕ) (at : ℕ) → Below 256 bytes → Below 256 (putAll bytes at l)
-unfolding putAll
-below-all [] bytes at h = h
-below-all (p ∷ l) bytes at h = below-all l (putOf bytes at (p .0) (p .1)) (at + p .0) (put-below bytes at (p .0) (p .1) h)
-
-narrow-each : {A : Type 0} (f : A → List Piece) → ((a : A) → all narrow (f a) ≡ true) → (l : List A) → all narrow (flatMap f l) ≡ true
-unfolding all flatMap
-narrow-each f h [] = refl
-narrow-each f h (a ∷ l) = all-append narrow (f a) (flatMap f l) (h a) (narrow-each f h l)
-
-narrow-suite : (s : Suite) → all narrow (suitePieces 20 s) ≡ true
-unfolding suitePieces memberPieces rowPieces votePieces all
-narrow-suite s =
-    all-append narrow (flatMap votePieces (ballots s)) (flatMap (memberPieces 20) (tiles s))
-    (narrow-each votePieces (λ v. refl) (ballots s))
-    (narrow-each (memberPieces 20) (λ m. narrow-each (rowPieces 20) (λ r. refl) (entries m)) (tiles s))
 
 -- ---- the image
 
+-- the bytes that the code writes into: the longest image, and eight more
+abbrev pub scratch : ℕ
+scratch = 2733
+
 pub record Whole (s : Suite) (buffer : List ℕ) (n : ℕ) : Type 0 where
   pub image : take ((n + 7) / 8) buffer ≡ imageOf s
-  pub size : length (imageOf s) ≡ (n + 7) / 8
-  pub places : length buffer ≡ longest
+  pub places : length buffer ≡ scratch
 
-pub whole : (s : Suite) (buffer : List ℕ) (n : ℕ) → n ≡ widths (suitePieces 20 s) → n ≤ 21797
-    → buffer ≡ putAll (replicate longest 0) 0 (suitePieces 20 s) → Whole s buffer n
-unfolding imageOf bytesFor
-whole s buffer n e h b =
+zeros-hold : (n : ℕ) → Holds (replicate n 0) []
+unfolding bitsIn widths
+zeros-hold n =
+    let e : 8 * n ≡ 8 * length {A = ℕ} (replicate n 0) - 0 = rw (length-replicate {A = ℕ} n 0) (omega arith) in
+    (filled-none n ∙ ap (λ (i : ℕ). replicate i 0) e, below-zeros 255 n)
+
+pub whole : (s : Suite) (buffer : List ℕ) (n : ℕ) → n ≡ widths (suitePieces 20 s) → Appended (replicate scratch 0) 0 (suitePieces 20 s) buffer
+    → Whole s buffer n
+unfolding imageOf bytesFor widths
+whole s buffer n e b =
     let l = suitePieces 20 s in
-    let z : List ℕ = replicate longest 0 in
-    let f = filled-all l z [] (8 * longest) 0 (filled-none longest) refl (narrow-suite s) (omega arith) in
+    let h : Holds buffer l = b .holds [] refl (zeros-hold scratch) in
     let k : length (bitsIn l) ≡ n = length-bitsIn l ∙ sym e in
     record {
-      image =
-          ap (take ((n + 7) / 8)) b
-          ∙ ap (λ (i : ℕ). take ((i + 7) / 8) (putAll z 0 l)) (sym k)
-          ∙ filled-packed (putAll z 0 l) (bitsIn l) (8 * longest - widths l) (below-all l z 0 (below-zeros 255 longest)) f;
-      size = length-image s ∙ ap bytesFor (sym (suite-widths 20 s) ∙ sym e);
-      places = ap length b ∙ length-putAll l z 0 ∙ length-replicate {A = ℕ} longest 0;
+      image = ap (λ (i : ℕ). take ((i + 7) / 8) buffer) (sym k) ∙ filled-packed buffer (bitsIn l) (8 * length buffer - widths l) (h .1) (h .0);
+      places = b .same-length ∙ length-replicate {A = ℕ} scratch 0;
     }
 
 pub fill-short : (image out : List ℕ) → length out < length image → fillOf image out ≡ untouched 19 out

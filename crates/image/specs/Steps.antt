@@ -3,8 +3,8 @@ use Prim.Native.Nat.{ℕ, _≤_}
 use Rattle.member.specs.declared.Row.{Row}
 use Rattle.suite.specs.Outcome.{numberOf}
 use Rattle.image.specs.Reader.{Taken, took, fault}
-use Rattle.image.specs.declared.reader.Entry.{Entry}
-use Rattle.image.specs.declared.reader.Entry.the-variants as entry
+use Rattle.image.specs.declared.entries.Entry.{Entry}
+use Rattle.image.specs.declared.entries.Entry.the-variants as entry
 use Rattle.image.specs.declared.reader.Place.{Place}
 use Rattle.image.specs.declared.reader.Place.the-variants as place
 

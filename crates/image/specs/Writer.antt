@@ -1,21 +1,26 @@
--- The writer: what it puts, and what it leaves in the bytes that a caller lends.
+-- The writer: what it appends, and what it leaves in the bytes that a caller lends.
+use mathlib.Core.Path.{_≡_}
 use mathlib.Core.List.{List, [], _∷_, _++_}
 use mathlib.Core.Bool.{cond}
-use Prim.Native.Nat.{ℕ, _+_}
-use lib.ListN.{length, drop}
+use Prim.Native.Nat.{ℕ, _-_, _*_}
+use lib.ListN.{length, drop, replicate}
 use lib.Dec.{leb}
-use Rattle.fields.specs.Field.{putOf}
+use Rattle.fields.specs.Bits.{bitsOf, Below}
 use Rattle.suite.specs.Suite.{soundSuite}
 use Rattle.suite.specs.Outcome.{Outcome, answered, refused, numberOf}
 use Rattle.suite.specs.declared.Suite.{Suite}
-use Rattle.image.specs.Layout.{Piece, imageOf}
+use Rattle.image.specs.Layout.{Piece, bitsIn, widths, imageOf}
 use Rattle.image.specs.declared.Written.{Written}
 use Rattle.image.specs.declared.Written.the-variants as written
 
--- fields put one after another, from bit `at` on
-unfoldable pub putAll : List ℕ → ℕ → List Piece → List ℕ
-putAll bytes at [] = bytes
-putAll bytes at (p ∷ l) = putAll (putOf bytes at (p .0) (p .1)) (at + p .0) l
+-- the bytes hold these fields, and zero bits behind them
+abbrev pub Holds : List ℕ → List Piece → Type 0
+Holds bytes l = (bitsOf bytes ≡ bitsIn l ++ replicate (8 * length bytes - widths l) 0) × Below 256 bytes
+
+-- what appending fields at bit `at` comes to: bytes that hold other fields up to there hold these behind them afterwards
+pub record Appended (before : List ℕ) (at : ℕ) (l : List Piece) (after : List ℕ) : Type 0 where
+  pub same-length : length after ≡ length before
+  pub holds : (done : List Piece) → widths done ≡ at → Holds before done → Holds after (done ++ l)
 
 -- what a call answers, and what stands in the lent bytes afterwards
 pub record Lent : Type 0 where

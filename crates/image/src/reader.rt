@@ -1,28 +1,21 @@
 // The fields of an image, read one after another; the first fault decides. What a function requires of `at` keeps the sums of
 // places from wrapping.
 use crate::EDITION;
-use crate::NAME;
+use crate::entries::read_rows;
 use fields::Field;
-use member::Row;
 use suite::Frame;
 use suite::Refusal;
 ghost use mathlib.Core.Path.{_≡_};
 ghost use mathlib.Core.List.{map};
-ghost use Prim.Native.Nat.{_+_, _-_, _*_, _^_, _≤_, _<_};
+ghost use Prim.Native.Nat.{_+_, _-_, _*_, _≤_};
 ghost use lib.ListN.{length, take, drop, replicate};
 ghost use Rattle.fields.specs.Bits.{bitsOf};
 ghost use Rattle.member.specs.Tile.{freshTile};
 ghost use Rattle.tile.specs.Lent.{tileIn};
 ghost use Rattle.directory.specs.Lent.{suiteIn};
 ghost use Rattle.image.specs.Layout.{nameWidth};
-ghost use Rattle.image.specs.Reader.{field, each, readRow, readRows, readMember, readMembers, readVoted, readSuite, onlyPadding, noFrame};
-ghost use Rattle.image.specs.Steps.{entryOf, placedOf, endsBy};
-
-// An entry, or the first fault in it.
-pub enum Entry {
-    Is(Row),
-    No(Refusal),
-}
+ghost use Rattle.image.specs.Reader.{field, each, readMember, readMembers, readVoted, readSuite, onlyPadding, noFrame};
+ghost use Rattle.image.specs.Steps.{placedOf, endsBy};
 
 // The bit at which the next field starts, or the first fault. What was read stands beside it.
 pub enum Place {
@@ -39,12 +32,6 @@ pub struct Ballots {
 pub struct Parsed {
     pub place: Place,
     pub frame: Frame,
-}
-
-fn wide(x: u32) -> u64
-    ensures { λ r. ⌜ (r ≡ x) × (r < 2 ^ 32) ⌝ }
-{
-    x as u64
 }
 
 // What stands beside a refusal.
@@ -68,68 +55,8 @@ fn no_suite(refusal: Refusal) -> Parsed
     }
 }
 
-// An entry whose name is `lowest` or greater.
-fn read_row(bytes: &[u8], at: usize, lowest: u64) -> Entry
-    requires { ⌜ at ≤ 30000 ⌝ }
-    ensures { λ r. ⌜ entryOf r (at + 84) ≡ readRow (now (bytes .entry)) nameWidth lowest at ⌝ }
-{
-    let second = at + NAME as usize;
-    let third = second + 24;
-    let fourth = third + 16;
-    let Field::Is(name) = fields::read(bytes, at, NAME) else {
-        return Entry::No(Refusal::Short);
-    };
-    if wide(name) < lowest {
-        return Entry::No(Refusal::Field);
-    }
-    let Field::Is(version) = fields::read(bytes, second, 24) else {
-        return Entry::No(Refusal::Short);
-    };
-    if version == 0 {
-        return Entry::No(Refusal::Field);
-    }
-    let Field::Is(value) = fields::read(bytes, third, 16) else {
-        return Entry::No(Refusal::Short);
-    };
-    let Field::Is(gap) = fields::read(bytes, fourth, 24) else {
-        return Entry::No(Refusal::Short);
-    };
-    Entry::Is(Row {
-        name,
-        version,
-        value,
-        gap,
-    })
-}
-
-// The entries of a member, ascending.
-fn read_rows(bytes: &[u8], at: usize, low: u32, count: usize, tile: &mut [u32; 130]) -> Place
-    requires { ⌜ (at ≤ 22000) × (count ≤ 32) ⌝ }
-    ensures { λ r. ⌜ (placedOf r (tileIn (now (tile .exit))) ≡ readRows (now (bytes .entry)) nameWidth count low at) × endsBy r (at + 2688) ⌝ }
-{
-    tile::empty(tile, low);
-    let mut next = at;
-    let mut lowest: u64 = 0;
-    let mut i = 0;
-    while i < count {
-        let entry = read_row(bytes, next, lowest);
-        match entry {
-            Entry::Is(row) => {
-                tile::append(tile, row);
-                lowest = wide(row.name) + 1;
-                next += 84;
-                i += 1;
-            }
-            Entry::No(refusal) => {
-                return Place::No(refusal);
-            }
-        }
-    }
-    Place::At(next)
-}
-
 fn read_member(bytes: &[u8], at: usize, tile: &mut [u32; 130]) -> Place
-    requires { ⌜ at ≤ 21000 ⌝ }
+    requires { ⌜ (at ≤ 21000) × (tileIn (now tile) ≡ freshTile) ⌝ }
     ensures { λ r. ⌜ (placedOf r (tileIn (now (tile .exit))) ≡ readMember (now (bytes .entry)) nameWidth at) × endsBy r (at + 2718) ⌝ }
 {
     let second = at + 6;
@@ -143,7 +70,7 @@ fn read_member(bytes: &[u8], at: usize, tile: &mut [u32; 130]) -> Place
     let Field::Is(low) = fields::read(bytes, second, 24) else {
         return Place::No(Refusal::Short);
     };
-    read_rows(bytes, third, low, count as usize, tile)
+    read_rows(bytes, third, low as u32, count as usize, tile)
 }
 
 // The votes, one for each member; the places past them hold zero.
@@ -162,7 +89,7 @@ fn read_votes(bytes: &[u8], at: usize, count: usize) -> Ballots
                 votes,
             };
         };
-        votes[i] = vote;
+        votes[i] = vote as u32;
         next += 4;
         i += 1;
     }
@@ -249,7 +176,7 @@ pub(crate) fn read_suite(bytes: &[u8], lent: &mut [[u32; 130]; 8]) -> Parsed
     let Field::Is(write) = fields::read(bytes, 14, 7) else {
         return no_suite(Refusal::Short);
     };
-    read_voted(bytes, less as usize + 1, read, write, lent)
+    read_voted(bytes, less as usize + 1, read as u32, write as u32, lent)
 }
 
 // Are the bits from `end` on fewer than a byte, and all 0?

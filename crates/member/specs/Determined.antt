@@ -2,7 +2,7 @@
 use mathlib.Core.Path.{_≡_, sym, _∙_}
 use Prim.Native.Nat.{ℕ, _≤_}
 use lib.ListN.{length}
-use Rattle.member.specs.Tile.{freshTile, emptyTile, entries, readingOf, rowOf}
+use Rattle.member.specs.Tile.{freshTile, emptyTile, entries, readingOf}
 use Rattle.member.specs.Search.{endOf}
 use Rattle.member.specs.Rounds.{aroundOf, belowOf, aboveOf, offerBelowOf, offerAboveOf}
 use Rattle.member.specs.Change.{writeOf, dropOf, coalesceOf, appendOf, fitsWrite, fitsCoalesce}
@@ -42,9 +42,6 @@ module _ (m : Member) where
 
   pub lowest-gap-determined : Determines (λ r. r ≡ m .low)
   lowest-gap-determined = same (m .low)
-
-  pub row-determined : (i : ℕ) → Determines (λ r. r ≡ rowOf m i)
-  row-determined i = same (rowOf m i)
 
   pub around-determined : (name : ℕ) → Determines (λ r. r ≡ aroundOf m name)
   around-determined name = same (aroundOf m name)

@@ -62,7 +62,7 @@ none-drop zero a h = h
 none-drop (suc i) [] h = h
 none-drop (suc i) (r ∷ a) h = none-drop i a (and-eq-true-iff (isNone r) (allNone a) .0 h .1)
 
-none-replicate : (n : ℕ) → allNone (replicate n none) ≡ true
+pub none-replicate : (n : ℕ) → allNone (replicate n none) ≡ true
 unfolding allNone isNone
 none-replicate zero = refl
 none-replicate (suc n) = none-replicate n

@@ -1,9 +1,8 @@
 // What the layers above ask of one member at a time.
 use crate::Member;
 use crate::Reading;
-use crate::Row;
 ghost use mathlib.Core.Path.{_≡_};
-ghost use Rattle.member.specs.Tile.{readingOf, rowOf};
+ghost use Rattle.member.specs.Tile.{readingOf};
 ghost use Rattle.member.specs.Change.{fitsWrite};
 
 impl Member {
@@ -47,16 +46,5 @@ impl Member {
         ensures { λ r. ⌜ r ≡ self .low ⌝ }
     {
         self.low
-    }
-
-    // The entry in place i, counted from the lowest; past the last, what an unused place holds.
-    pub fn row(self, i: usize) -> Row
-        ensures { λ r. ⌜ r ≡ rowOf self i ⌝ }
-    {
-        if i < self.used() {
-            self.rows[i]
-        } else {
-            Row::NONE
-        }
     }
 }

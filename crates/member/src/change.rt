@@ -1,5 +1,5 @@
-// How a member changes: an entry written, an entry dropped, a row added by the image layer. Each change takes the member by
-// value and gives the changed one back.
+// How a member changes: an entry written, an entry dropped, a row added above the last. Each change takes the member by value
+// and gives the changed one back.
 use crate::Member;
 use crate::Row;
 use crate::sound::in_range;

@@ -4,16 +4,13 @@ use mathlib.Core.Bool.{Bool, true, false}
 use Prim.Native.Nat.{ℕ, zero, suc, _+_, _-_, _≤_, _<_}
 use native.Mathlib.Numerals.{add-one}
 use native.Mathlib.Omega.{arith}
-use mathlib.Core.List.{List, _∷_}
+use mathlib.Core.List.{List}
 use lib.ListN.{length, getD, drop, drop-of-length-le, length-drop}
-use lib.Seq.{drop-cons}
 use lib.Dec.{ltb}
 use borrow.Author.Tests.{eq-eqb, ne-eqb, ltb-true, ltb-false}
+use Rattle.text.proofs.Places.{byte-at}
 use Rattle.run.specs.Course.{newline, endIn}
 use Rattle.run.specs.LineLaws.{end-within}
-
-byte-at : (l : List ℕ) (i : ℕ) → i < length l → drop i l ≡ getD l i 0 ∷ drop (i + 1) l
-byte-at l i h = drop-cons l i 0 h ∙ ap (λ (n : ℕ). getD l i 0 ∷ drop n l) (sym (add-one i))
 
 pub at-newline : (l : List ℕ) (i : ℕ) → i < length l → getD l i 0 ≡ 10 → endIn (drop i l) ≡ 0
 unfolding endIn newline

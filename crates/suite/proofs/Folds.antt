@@ -3,8 +3,10 @@ use mathlib.Core.Path.{_≡_, refl, sym, ap, _∙_}
 use mathlib.Core.List.{List, [], _∷_, map}
 use mathlib.Core.Bool.{Bool, true, false, _&&_, _||_}
 use Prim.Native.Nat.{ℕ}
+use borrow.Author.Tests.{le-leb}
 use lib.Dec.{ltb, eqb}
 use lib.ListN.{getD}
+use Rattle.member.specs.Limits.{high}
 use Rattle.member.specs.declared.Reading.{Reading}
 use Rattle.member.specs.declared.Reading.the-variants.{Entry, Gap}
 use Rattle.member.specs.declared.Around.{Around}
@@ -15,8 +17,9 @@ use Rattle.member.specs.declared.Offer.the-variants.{Is, Nothing}
 use Rattle.suite.specs.Best.{best}
 use Rattle.suite.specs.Sets.{all}
 use Rattle.suite.specs.Calls.{newer, higher, nearer, rankBelow, rankAbove, noSide, boundOr, offeredVersion}
-use Rattle.suite.specs.Rows.{noRow, readingRow, aroundRow, offersRow, rowReading, beatsAt, isSet, fitRow}
+use Rattle.suite.specs.Rows.{noRow, readingRow, aroundRow, offersRow, rankWithin, rowReading, beatsAt, isSet, fitRow}
 use Rattle.suite.specs.BestLaws.{best-map, best-same}
+use Rattle.suite.proofs.Bounds.{endWithin}
 
 -- Comparing rows is comparing answers.
 
@@ -90,16 +93,24 @@ around-newest l =
 pub record Both : Type 0 where
   pub below : Offer
   pub above : Offer
+  pub within : endWithin below
 
 abbrev pub bothRow : Both → List ℕ
 bothRow w = offersRow (w .below) (w .above)
 
 abbrev noOffers : Both
-noOffers = record { below = Nothing; above = Nothing }
+noOffers = record { below = Nothing; above = Nothing; within = tt }
 
 offered-version : (o : Offer) → boundOr o .version ≡ offeredVersion o
 offered-version (Is b) = refl
 offered-version Nothing = refl
+
+rank-within : (w : Both) → rankWithin (w .below) ≡ rankBelow (w .below)
+rank-within w = go (w .below) (w .within)
+  where
+    go : (o : Offer) → endWithin o → rankWithin o ≡ rankBelow o
+    go (Is b) h = simp (le-leb (b .end) high h)
+    go Nothing h = refl
 
 abbrev pub boundAt : List ℕ → ℕ → ℕ → ℕ → Bound
 boundAt row i j k = record { end = getD row i 0; version = getD row j 0; value = getD row k 0 }
@@ -111,7 +122,7 @@ predecessor-row l =
     ap (λ row. boundAt row 1 2 3) (best-map (beatsAt 0 2) bothRow noOffers l)
     ∙ ap (λ (w : Both). boundOr (w .below))
     (best-same (λ b a. beatsAt 0 2 (bothRow b) (bothRow a)) (λ b a. nearer rankBelow (b .below) (a .below))
-    (λ b a. rw (offered-version (b .below), offered-version (a .below))) noOffers l)
+    (λ b a. rw (rank-within b, rank-within a, offered-version (b .below), offered-version (a .below))) noOffers l)
     ∙ ap boundOr (sym (best-map (nearer rankBelow) (λ (w : Both). w .below) noOffers l))
 
 pub successor-row : (l : List Both)

@@ -22,6 +22,7 @@ use Rattle.suite.specs.AnswerLaws.{picked-one}
 use Rattle.suite.specs.declared.Suite.{Suite}
 use Rattle.suite.specs.declared.Question.{Question}
 use Rattle.suite.specs.declared.Question.the-variants as question
+use Rattle.suite.proofs.Bounds.{below-within}
 use Rattle.suite.proofs.Folds.{newest-row, sideOf, below-row, above-row, around-newest, Both, bothRow, boundAt, predecessor-row, successor-row, fits-row}
 
 map-map : {A B C : Type 0} (f : B → C) (g : A → B) (l : List A) → map (λ a. f (g a)) l ≡ map f (map g l)
@@ -92,7 +93,12 @@ module _ (s : Suite) (set : ℕ) (h : set < 2 ^ length (tiles s)) where
       q = question.Offers x b a
 
       abbrev both : Member → Both
-      both m = record { below = offerBelowOf m x (b .end) (b .version); above = offerAboveOf m x (a .end) (a .version) }
+      both m =
+          record {
+            below = offerBelowOf m x (b .end) (b .version);
+            above = offerAboveOf m x (a .end) (a .version);
+            within = below-within m x (b .end) (b .version);
+          }
 
       two-is : chosen (answerTable s set q) set ≡ map bothRow (map both ms)
       unfolding rowOf

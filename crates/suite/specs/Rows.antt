@@ -1,9 +1,9 @@
 -- The table of a round, as the code has it: a row of eight numbers for each member.
 use mathlib.Core.List.{List, [], _∷_, _++_}
 use mathlib.Core.Bool.{Bool, true, false, cond, _&&_, _||_, not}
-use Prim.Native.Nat.{ℕ, _+_, _-_, _/_, _%_, _≤_}
+use Prim.Native.Nat.{ℕ, _+_, _-_, _/_, _%_}
 use lib.ListN.{length, getD, replicate}
-use lib.Dec.{ltb, eqb}
+use lib.Dec.{leb, ltb, eqb}
 use Rattle.member.specs.Limits.{high}
 use Rattle.member.specs.declared.Member.{Member}
 use Rattle.member.specs.declared.Reading.{Reading}
@@ -11,7 +11,7 @@ use Rattle.member.specs.declared.Reading.the-variants.{Entry, Gap}
 use Rattle.member.specs.declared.Around.{Around}
 use Rattle.member.specs.declared.Offer.{Offer}
 use Rattle.member.specs.declared.Offer.the-variants.{Is, Nothing}
-use Rattle.suite.specs.Calls.{Answer, reads, sees, offers, fits, Marked, rankBelow, rankAbove, boundOr, newest, gapBelowIn, gapAboveIn, predecessor, successor}
+use Rattle.suite.specs.Calls.{Answer, reads, sees, offers, fits, Marked, rankAbove, boundOr, newest, gapBelowIn, gapAboveIn, predecessor, successor}
 use Rattle.suite.specs.declared.rounds.Survey.{Survey}
 
 abbrev pub noRow : List ℕ
@@ -36,13 +36,14 @@ aroundRow a =
     ∷ 0
     ∷ []
 
-abbrev pub endWithin : Offer → Type 0
-endWithin (Is b) = b .end ≤ high
-endWithin Nothing = Unit {0}
+-- rankBelow of an end up to HIGH, as each that a member offers is; past HIGH it is 0, since one more may not fit 32 bits
+abbrev pub rankWithin : Offer → ℕ
+rankWithin (Is b) = cond (leb (b .end) high) (b .end + 1) 0
+rankWithin Nothing = 0
 
 unfoldable pub offersRow : Offer → Offer → List ℕ
 offersRow o p =
-    rankBelow o
+    rankWithin o
     ∷ boundOr o .end
     ∷ boundOr o .version
     ∷ boundOr o .value

@@ -2,7 +2,7 @@
 //   a reading:   present, version, value;
 //   round one:   present, version, value, then version and lower end of the gap below, version and upper end of the gap above;
 //   round two:   rank, end, version, value of the entry offered below, then of the one offered above; the rank is the greater
-//                the nearer the entry is to the name, and 0 where none is offered;
+//                the nearer the entry is to the name, and 0 where none is offered or its end is past HIGH;
 //   a fit:       1 or 0;
 // with zeros in the places left, and in the rows of members that were not asked.
 use member::Around;
@@ -14,8 +14,8 @@ ghost use mathlib.Core.Path.{_≡_};
 ghost use Prim.Native.Nat.{_<_};
 ghost use Rattle.suite.specs.Best.{best};
 ghost use Rattle.suite.specs.Sets.{chosen, all};
-ghost use Rattle.suite.specs.Calls.{boundOr, rankBelow, rankAbove};
-ghost use Rattle.suite.specs.Rows.{noRow, fitRow, readingRow, aroundRow, offersRow, rowReading, beatsAt, isSet, endWithin};
+ghost use Rattle.suite.specs.Calls.{boundOr, rankAbove};
+ghost use Rattle.suite.specs.Rows.{noRow, fitRow, readingRow, aroundRow, offersRow, rankWithin, rowReading, beatsAt, isSet};
 
 pub(crate) fn reading_row(reading: Reading) -> [u32; 8]
     ensures { λ r. ⌜ r ≡ readingRow reading ⌝ }
@@ -85,27 +85,27 @@ fn offered(offer: Offer) -> Bound
 }
 
 fn rank_below(offer: Offer) -> u32
-    requires { ⌜ endWithin offer ⌝ }
-    ensures { λ r. ⌜ r ≡ rankBelow offer ⌝ }
+    ensures { λ r. ⌜ r ≡ rankWithin offer ⌝ }
 {
     match offer {
-        Offer::Is(b) => b.end + 1,
+        Offer::Is(b) => { if b.end <= Name::HIGH { b.end + 1 } else { 0 } }
         Offer::Nothing => 0,
     }
 }
 
 fn rank_above(offer: Offer) -> u32
-    requires { ⌜ endWithin offer ⌝ }
     ensures { λ r. ⌜ r ≡ rankAbove offer ⌝ }
 {
     match offer {
-        Offer::Is(b) => Name::HIGH + 1 - b.end,
+        Offer::Is(b) => {
+            let past = Name::HIGH + 1;
+            if b.end < past { past - b.end } else { 0 }
+        }
         Offer::Nothing => 0,
     }
 }
 
 pub fn offers_row(below: Offer, above: Offer) -> [u32; 8]
-    requires { ⌜ (endWithin below) × (endWithin above) ⌝ }
     ensures { λ r. ⌜ r ≡ offersRow below above ⌝ }
 {
     let b = offered(below);

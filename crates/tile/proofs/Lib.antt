@@ -4,7 +4,6 @@ pub mod ChangeRows
 pub mod ChangeSteps
 pub mod ChangeWrites
 pub mod RemovalSteps
-pub mod RowsAdded
 pub mod SearchHalves
 pub mod SoundSteps
 pub mod StoreSteps

@@ -7,15 +7,11 @@ use lib.ListN.{length, drop, set, length-drop}
 use Rattle.member.specs.declared.Row.{Row}
 use Rattle.tile.specs.Lent.{rowAt, rowsIn, tileIn}
 use Rattle.tile.specs.Cells.{withRow, withLow, withCount}
+use Rattle.tile.proofs.CellsRead.{length-rows}
 
 -- the numbers of a row in four cells from k on
 abbrev stored : List ℕ → ℕ → Row → List ℕ
 stored l k r = set (set (set (set l k (r .name)) (suc k) (r .version)) (suc (suc k)) (r .value)) (suc (suc (suc k))) (r .gap)
-
-length-rows : (n : ℕ) (l : List ℕ) → length (rowsIn n l) ≡ n
-unfolding rowsIn
-length-rows zero l = refl
-length-rows (suc n) l = ap suc (length-rows n (drop 4 l))
 
 pub tile-rows : (l : List ℕ) → length (tileIn l .rows) ≡ 32
 tile-rows l = length-rows 32 (drop 2 l)

@@ -2,20 +2,21 @@
 -- A contract that says which member the lent cells are says each of them, since no two tiles are one member.
 use mathlib.Core.Path.{_≡_, refl, ap, sym, _∙_}
 use mathlib.Core.List.{List, [], _∷_}
-use Prim.Native.Nat.{ℕ, zero, suc, _*_, _≤_}
+use Prim.Native.Nat.{ℕ, zero, suc, _*_, _≤_, min}
 use native.Mathlib.Omega.{arith}
 use lib.ListN.{length, getD, drop, length-drop}
-use Rattle.member.specs.Tile.{none, emptyTile, entries, readingOf, rowOf}
+use Rattle.member.specs.Tile.{none, entries, readingOf, rowOf}
 use Rattle.member.specs.Rounds.{aroundOf, offerBelowOf, offerAboveOf}
-use Rattle.member.specs.Change.{writeOf, coalesceOf, appendOf, fitsWrite, fitsCoalesce}
+use Rattle.member.specs.Change.{writeOf, coalesceOf, fitsWrite, fitsCoalesce}
 use Rattle.member.specs.Sound.{soundMember}
-use Rattle.member.specs.Determined.{Determines}
+use Rattle.member.specs.Determined.{Determines, same}
 use Rattle.member.specs.declared.Row.{Row}
 use Rattle.member.specs.declared.Bound.{Bound}
 use Rattle.member.specs.declared.Side.{Side}
 use Rattle.member.specs.declared.Member.{Member}
 use Rattle.tile.specs.declared.rounds.Offered.{Offered}
 use Rattle.tile.specs.Lent.{rowAt, rowsIn, tileIn}
+use Rattle.tile.specs.Cells.{withRow, withLow, withCount}
 
 -- a row's cells, and what follows them
 abbrev cellsOf : Row → List ℕ → List ℕ
@@ -54,18 +55,12 @@ one-tile a b e h k =
     rows-cells 32 (drop 2 a) (drop 2 b) (omega (arith, length-drop 2 a)) (omega (arith, length-drop 2 b)) (ap (λ (m : Member). m .rows) e) in
     fronted a (omega arith) ∙ (λ j. e j .count ∷ (e j .low ∷ t j)) ∙ sym (fronted b (omega arith))
 
-same : {A : Type 0} (o : A) → Determines (λ r. r ≡ o)
-same o r r′ p q = p ∙ sym q
-
 -- a contract allows the 130 cells that a call leaves in lent memory to be one list at most
 abbrev pub Leaves : (List ℕ → Type 0) → Type 0
 Leaves allows = (l l′ : List ℕ) → length l ≡ 130 → length l′ ≡ 130 → allows l → allows l′ → l ≡ l′
 
 left : (m : Member) → Leaves (λ l. tileIn l ≡ m)
 left m l l′ h k p q = one-tile l l′ (p ∙ sym q) h k
-
-pub empty-determined : (gap : ℕ) → Leaves (λ exit. tileIn exit ≡ emptyTile gap)
-empty-determined gap = left (emptyTile gap)
 
 module _ (tile : List ℕ) where
   pub size-determined : Determines (λ r. (r ≡ length (entries (tileIn tile))) × (r ≤ 32))
@@ -107,5 +102,11 @@ module _ (tile : List ℕ) where
   pub coalesce-determined : (p s : Bound) (gap : ℕ) → Leaves (λ exit. tileIn exit ≡ coalesceOf (tileIn tile) p s gap)
   coalesce-determined p s gap = left (coalesceOf (tileIn tile) p s gap)
 
-  pub append-determined : (new : Row) → Leaves (λ exit. tileIn exit ≡ appendOf (tileIn tile) new)
-  append-determined new = left (appendOf (tileIn tile) new)
+  pub set-lowest-determined : (gap : ℕ) → Leaves (λ exit. tileIn exit ≡ withLow (tileIn tile) gap)
+  set-lowest-determined gap = left (withLow (tileIn tile) gap)
+
+  pub set-entry-determined : (i : ℕ) (row : Row) → Leaves (λ exit. tileIn exit ≡ withRow (tileIn tile) i row)
+  set-entry-determined i row = left (withRow (tileIn tile) i row)
+
+  pub set-size-determined : (n : ℕ) → Leaves (λ exit. tileIn exit ≡ withCount (tileIn tile) (min n 32))
+  set-size-determined n = left (withCount (tileIn tile) (min n 32))

@@ -1,4 +1,4 @@
--- `fields::read` meets its contract: the field is a part of the four bytes around it.
+-- `fields::read` meets its contract: the field is a part of the eight bytes around it.
 -- Assumes nothing.
 use borrow.Author.Needs.{needs}
 use Prim.Native.Nat.{ℕ, _≤_}
@@ -10,7 +10,6 @@ use Rattle.fields.specs.Field.{fitsIn}
 use Rattle.fields.specs.Word.{partOf}
 use Rattle.fields.proofs.Below.{below-of}
 use Rattle.fields.proofs.Answers.{fits-narrow, read-short}
-use Rattle.fields.proofs.Shifts.{part-fits}
 use Rattle.fields.proofs.Within.{read-met}
 use Rattle.fields.proofs.read.Statement.{statement}
 use Rattle.fields.proofs.read.Tie as tie
@@ -19,49 +18,37 @@ fits-requires : tie.Need-fits-requires
 fits-requires c κs = search needs
 
 -- the test that was passed
-fitting : (c : tie.Then1)
+passed : (c : tie.Then1)
     → fitsIn (length (c .before .before .before .args .bytes .now)) (c .before .before .before .args .at)
     (c .before .before .before .args .width)
     ≡ true
-fitting c = sym (c .before .fits2 .ensures) ∙ c .if1 .taken
+passed c = sym (c .before .fits2 .ensures) ∙ c .if1 .taken
 
-narrow : (c : tie.Then1) → c .before .before .before .args .width ≤ 24
-narrow c = fits-narrow _ _ _ (fitting c)
-
-behind-requires : tie.Need-behind-requires
-behind-requires c κs = narrow c
+narrow : (c : tie.Then1) → c .before .before .before .args .width ≤ 56
+narrow c = fits-narrow _ _ _ (passed c)
 
 word-requires : tie.Need-word-requires
 word-requires c κs = search needs
 
-part-requires : tie.Need-part-requires
-part-requires c κs = omega (arith, narrow (c .before .before), c .before .behind .ensures)
+behind-requires : tie.Need-behind-requires
+behind-requires c κs = narrow (c .before)
 
-cast-t11 : tie.Need-cast-t11
-cast-t11 c = record { fits = part-fits _ _ _ _ (narrow (c .before .before .before)) (c .part .ensures) }
+part-requires : tie.Need-part-requires
+part-requires c κs = omega (arith, narrow (c .before .before), c .behind .ensures)
 
 returns : tie.Need-returns
 returns c =
     let test = c .before .before .before in
     let args = test .before .before .before .args in
-    read-met (args .bytes .now) (args .at) (args .width)
+    read-met (args .bytes .now) (args .at) (args .width) (c .part .result)
     (below-of 256 (args .bytes .now) (λ i k. omega (arith, test .before .before .shared-slice-known .given i)))
-    (fitting test)
-    (c .part .result)
     (c .part .ensures
-    ∙ ap₂ (λ (x after : ℕ). partOf x after (args .width)) (c .before .word .ensures) (c .before .before .behind .ensures))
+    ∙ ap₂ (λ (x after : ℕ). partOf x after (args .width)) (c .before .before .word .ensures) (c .before .behind .ensures))
+    (passed test)
 
 returns-2 : tie.Need-returns-2
 returns-2 c = sym (read-short _ _ _ (sym (c .before .fits2 .ensures) ∙ c .if1 .left))
 
 pub read-spec : {M : Type 1} → statement M
 read-spec =
-    tie.close
-    (tie.spec
-    fits-requires
-    behind-requires
-    word-requires
-    part-requires
-    cast-t11
-    returns
-    returns-2)
+    tie.close (tie.spec fits-requires word-requires behind-requires part-requires returns returns-2)

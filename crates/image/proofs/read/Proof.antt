@@ -1,4 +1,4 @@
--- `read` reads the suite into tiles of its own, looks at what is left behind it, and hands the tiles over.
+-- `read` clears the tiles, reads the suite into them and looks at what is left behind it. On a refusal it puts back what they held.
 use mathlib.Core.Path.{_≡_, sym, ap, subst, _∙_}
 use native.Mathlib.Omega.{arith}
 use Rattle.suite.specs.Outcome.{numberOf}
@@ -14,7 +14,7 @@ use Rattle.image.proofs.read.Statement.{statement}
 use Rattle.image.proofs.read.Tie as tie
 
 -- the suite that was taken, and where its fields end
-taken : (c : tie.After-place) → took (suiteIn (c .before .before .read-suite .result .frame) (c .before .before .read-suite .last .1 .0)) (c .place .given .0 .0) ≡ readSuite (c .before .before .before .before .before .args .bytes .now) 20 0
+taken : (c : tie.After-place) → took (suiteIn (c .before .before .read-suite .result .frame) (c .before .before .read-suite .last .1 .0)) (c .place .given .0 .0) ≡ readSuite (c .before .before .before .before .before .before .before .args .bytes .now) 20 0
 taken c =
     sym (ap (λ (x : Place). placedOf x (suiteIn (c .before .before .read-suite .result .frame) (c .before .before .read-suite .last .1 .0))) (c .place .given .1)) ∙ c .before .before .read-suite .ensures .0
 
@@ -28,13 +28,13 @@ only-padding-requires : tie.Need-only-padding-requires
 only-padding-requires c κs =
     let p = c .before .place in
     let r = c .before .before .before .read-suite in (
-      suite-matches (c .before .before .before .before .before .before .args .bytes .now) 20 (omega arith) .only (suiteIn (r .result .frame) (r .last .1 .0)) 0 (p .given .0 .0) (sym (taken (c .before))) .1 (omega arith) .within,
+      suite-matches (c .before .before .before .before .before .before .before .before .args .bytes .now) 20 (omega arith) .only (suiteIn (r .result .frame) (r .last .1 .0)) 0 (p .given .0 .0) (sym (taken (c .before))) .1 (omega arith) .within,
       subst (λ (x : Place). endsBy x 21797) (p .given .1) (r .ensures .1),
     )
 
 returns : tie.Need-returns
 returns c =
-    let a = c .before .before .before .before .before .before .before .before .before .args in
+    let a = c .before .before .before .before .before .before .before .before .before .before .before .args in
     let r = c .before .before .before .before .before .before .read-suite in
     load-done (a .bytes .now) (a .lent .now) (r .result .frame) (r .last .1 .0) (c .before .before .before .before .place .given .0 .0) (taken (c .before .before .before .before))
     (sym (c .before .before .only-padding .ensures) ∙ c .before .if1 .taken)
@@ -50,7 +50,7 @@ not-loaded-requires-2 c κs = search needs
 
 returns-2 : tie.Need-returns-2
 returns-2 c =
-    let a = c .before .before .before .before .before .before .before .before .before .args in
+    let a = c .before .before .before .before .before .before .before .before .before .before .before .args in
     let r = c .before .before .before .before .before .before .read-suite in
     ap (λ (x : Loaded). loadedIn x (a .lent .now)) (c .not-loaded .ensures)
     ∙ load-padding (a .bytes .now) (a .lent .now) (r .result .frame) (r .last .1 .0) (c .before .before .before .before .place .given .0 .0) (taken (c .before .before .before .before))
@@ -58,7 +58,7 @@ returns-2 c =
 
 returns-3 : tie.Need-returns-3
 returns-3 c =
-    let a = c .before .before .before .before .before .before .before .args in
+    let a = c .before .before .before .before .before .before .before .before .before .args in
     let r = c .before .before .before .before .read-suite in
     let e : fault (numberOf (c .before .before .place2 .given .0 .0)) ≡ readSuite (a .bytes .now) 20 0 =
     sym (ap (λ (x : Place). placedOf x (suiteIn (r .result .frame) (r .last .1 .0))) (c .before .before .place2 .given .1)) ∙ r .ensures .0

@@ -1,13 +1,12 @@
--- `write_unchecked` puts the fields into a buffer of zeros, and copies the image where it fits.
+-- `write_unchecked` appends the fields in a buffer of zeros, and fills the lent bytes with what they come to.
 use native.Mathlib.Omega.{arith}
-use mathlib.Core.Path.{_≡_, sym, ap₂, _∙_}
-use mathlib.Core.List.{List, [], _∷_, _++_}
+use mathlib.Core.Path.{ap, _∙_}
+use mathlib.Core.List.{List}
 use Prim.Native.Nat.{ℕ, _+_, _/_}
-use lib.ListN.{length, drop}
-use Rattle.suite.specs.Outcome.{answered}
+use lib.ListN.{length-take}
 use Rattle.directory.specs.Lent.{suiteIn}
-use Rattle.image.specs.Layout.{imageOf}
-use Rattle.image.proofs.Writing.{Whole, whole, fill-short, fill-fits}
+use Rattle.image.specs.Writer.{fillOf}
+use Rattle.image.proofs.Writing.{Whole, whole}
 use borrow.Author.Needs.{needs}
 use Rattle.image.proofs.write_unchecked.Statement.{statement}
 use Rattle.image.proofs.write_unchecked.Tie as tie
@@ -21,40 +20,32 @@ put-suite-requires c κs = search needs
 add-length : tie.Need-add-length
 add-length c = search needs
 
+array-share-prefix-image : tie.Need-array-share-prefix-image
+array-share-prefix-image c = search needs
+
 -- what the buffer holds
 filled : (c : tie.After-image2) → (let a = c .before .before .before .before .args in Whole (suiteIn (a .frame) (a .lent .now)) (c .before .put-suite .last .0) (c .before .put-suite .result))
 filled c =
     let a = c .before .before .before .before .args in
     let p = c .before .put-suite in
-    whole (suiteIn (a .frame) (a .lent .now)) (p .last .0) (p .result) (p .ensures .0) (p .ensures .1 .0) (p .ensures .1 .1)
+    whole (suiteIn (a .frame) (a .lent .now)) (p .last .0) (p .result) (p .ensures .0) (p .ensures .1 .1)
 
-returns : tie.Need-returns
-returns c =
-    let w = filled (c .before) in
-    let a = c .before .before .before .before .before .args in
-    sym (fill-short (imageOf (suiteIn (a .frame) (a .lent .now))) (a .out .now) (omega (arith, c .if1 .taken, w .size)))
+slice-aggregate-fill : tie.Need-slice-aggregate-fill
+slice-aggregate-fill c =
+    let p = c .before .before .put-suite in
+    omega (arith, length-take ((p .result + 7) / 8) (p .last .0), filled (c .before) .places, p .ensures .1 .0)
 
-slice-aggregate-copy : tie.Need-slice-aggregate-copy
-slice-aggregate-copy c = search needs
-
-copy-requires : tie.Need-copy-requires
-copy-requires c κs = omega (arith, filled (c .before .before .before) .places, c .before .before .before .before .put-suite .ensures .1 .0)
+fill-requires : tie.Need-fill-requires
+fill-requires c κs = search needs
 
 same-length : tie.Need-same-length
 same-length c = search needs
 
-returns-2 : tie.Need-returns-2
-returns-2 c =
-    let w = filled (c .before .before .before .before .before .before) in
-    let a = c .before .before .before .before .before .before .before .before .before .before .args in
-    let s = suiteIn (a .frame) (a .lent .now) in
-    let out = a .out .now in
-    let n : length (imageOf s) ≡ (c .before .before .before .before .before .before .before .put-suite .result + 7) / 8 = w .size in
-    (λ j. record {
-      outcome = answered (sym n j ∷ []);
-      bytes = (c .before .before .copy .ensures ∙ ap₂ (λ (l : List ℕ) (k : ℕ). l ++ drop k out) (w .image) (sym n)) j;
-    })
-    ∙ sym (fill-fits (imageOf s) out (omega (arith, c .before .before .before .before .before .if1 .left)))
+returns : tie.Need-returns
+returns c =
+    let t = c .before .before .before .before .before in
+    let out = t .before .before .before .before .args .out .now in
+    c .before .before .fill .ensures ∙ ap (λ (l : List ℕ). fillOf l out) (filled t .image)
 
 pub write-unchecked-spec : {M : Type 1} → statement M
 write-unchecked-spec =
@@ -63,8 +54,8 @@ write-unchecked-spec =
     slice-aggregate-put-suite
     put-suite-requires
     add-length
-    returns
-    slice-aggregate-copy
-    copy-requires
+    array-share-prefix-image
+    slice-aggregate-fill
+    fill-requires
     same-length
-    returns-2)
+    returns)

@@ -1,11 +1,8 @@
 -- `offers` lays a tile's two offers out as a row.
 use mathlib.Core.Path.{ap, _∙_}
-use denote.Ref.{now}
 use borrow.Author.Needs.{needs}
-use Rattle.tile.specs.Lent.{tileIn}
 use Rattle.tile.specs.declared.rounds.Offered.{Offered}
 use Rattle.suite.specs.Rows.{rowOf, offersRow}
-use Rattle.suite.proofs.Bounds.{offer-within, below-within, above-within}
 use Rattle.directory.proofs.ask.offers.Statement.{statement}
 use Rattle.directory.proofs.ask.offers.Tie as tie
 
@@ -13,13 +10,7 @@ offers-requires : tie.Need-offers-requires
 offers-requires c κs = search needs
 
 offers-row-requires : tie.Need-offers-row-requires
-offers-row-requires c κs =
-    let a = c .before .args in
-    let m = tileIn (now (a .tile)) in
-    let both = c .offers .ensures in (
-      offer-within _ (ap (λ (o : Offered). o .below) both) (below-within m (a .name) (a .below .end) (a .below .version)),
-      offer-within _ (ap (λ (o : Offered). o .above) both) (above-within m (a .name) (a .above .end) (a .above .version)),
-    )
+offers-row-requires c κs = search needs
 
 returns : tie.Need-returns
 unfolding rowOf

@@ -2,9 +2,10 @@
 use native.Mathlib.Omega.{arith}
 use mathlib.Core.Bool.{true}
 use mathlib.Core.Path.{_≡_, refl, sym, subst, _∙_}
-use Prim.Native.Nat.{ℕ, _+_}
+use Prim.Native.Nat.{ℕ, _+_, _^_, _<_}
 use lib.Dec.{leb}
 use borrow.Author.Tests.{le-leb, lt-leb}
+use Rattle.fields.proofs.Reread.{read-range}
 use Rattle.image.specs.Reader.{took, field, then, judged, readMember}
 use Rattle.image.specs.Steps.{endsBy}
 use Rattle.image.proofs.Matching.{field-is, field-short}
@@ -23,6 +24,9 @@ count-passes c = le-leb (c .before .before .count .given .0 .0) 32 (omega (arith
 low-is : (c : tie.After-low)
     → field (c .before .before .before .before .before .before .before .before .before .args .bytes .now) 24 (c .before .before .before .before .before .before .before .before .before .args .at + 6) ≡ took (c .low .given .0 .0) (c .before .before .before .before .before .before .before .before .before .args .at + 6 + 24)
 low-is c = field-is _ _ _ _ (sym (c .before .before .read2 .ensures) ∙ c .low .given .1)
+
+low-small : (c : tie.After-low) → c .low .given .0 .0 < 2 ^ 24
+low-small c = read-range _ _ 24 _ (sym (c .before .before .read2 .ensures) ∙ c .low .given .1)
 
 add-second : tie.Need-add-second
 add-second c = search needs
@@ -70,7 +74,7 @@ returns-3 c =
     ) (refl, tt)
 
 cast-read-rows : tie.Need-cast-read-rows
-cast-read-rows c = search needs
+cast-read-rows c = omega (arith, low-small (c .before))
 
 read-rows-requires : tie.Need-read-rows-requires
 read-rows-requires c κs = search needs

@@ -11,7 +11,7 @@ use Rattle.image.specs.Reader.{readMember}
 use Rattle.image.specs.Steps.{placedOf, endsBy}
 use Rattle.image.specs.declared.reader.Place.{Place}
 use Rattle.image.proofs.Reading.{PlacesSoFar, places-start}
-use Rattle.image.proofs.Tiles.{tiles-more, tiles-fault, tiles-end}
+use Rattle.image.proofs.Tiles.{tiles-next, tiles-more, tiles-fault, tiles-end}
 use Rattle.image.proofs.reader.read_members.Statement.{statement}
 use Rattle.image.proofs.reader.read_members.Tie as tie
 
@@ -37,7 +37,10 @@ index-1-read-member : tie.Need-index-1-read-member Inv-loop μ-loop
 index-1-read-member c = omega arith
 
 read-member-requires : tie.Need-read-member-requires Inv-loop μ-loop
-read-member-requires c κs = omega arith
+read-member-requires c κs =
+    let a = c .before .before .before .before .args in
+    let l = c .before .before .loop in
+    (omega arith, tiles-next (a .bytes .now) (a .frame) (a .at) (c .before .before .before .before .pre .1 .0) (l .lent) (l .next) (l .i) (l .inv .0) (c .before .loop-test .taken))
 
 enum-known-place : tie.Need-enum-known-place Inv-loop μ-loop
 enum-known-place c = search needs

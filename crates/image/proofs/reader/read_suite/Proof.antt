@@ -2,7 +2,7 @@
 use native.Mathlib.Omega.{arith}
 use mathlib.Core.Bool.{true}
 use mathlib.Core.Path.{_≡_, refl, sym, _∙_}
-use Prim.Native.Nat.{_<_}
+use Prim.Native.Nat.{_^_, _<_}
 use lib.Dec.{eqb}
 use borrow.Author.Tests.{eq-eqb, ne-eqb}
 use Rattle.fields.proofs.Reread.{read-range}
@@ -30,6 +30,12 @@ w-is c = field-is _ _ _ _ (sym (c .before .before .read5 .ensures) ∙ c .write 
 
 less-small : (c : tie.After-less) → c .less .given .0 .0 < 8
 less-small c = read-range _ 4 3 _ (sym (c .before .before .read2 .ensures) ∙ c .less .given .1)
+
+r-small : (c : tie.After-read4) → c .read4 .given .0 .0 < 2 ^ 7
+r-small c = read-range _ 7 7 _ (sym (c .before .before .read3 .ensures) ∙ c .read4 .given .1)
+
+w-small : (c : tie.After-write) → c .write .given .0 .0 < 2 ^ 7
+w-small c = read-range _ 14 7 _ (sym (c .before .before .read5 .ensures) ∙ c .write .given .1)
 
 read-requires : tie.Need-read-requires
 read-requires c κs = search needs
@@ -129,11 +135,14 @@ returns-5 c =
       field-short _ 7 14 (sym (c .before .before .before .read5 .ensures) ∙ c .before .enum-told4 .given .1),
     ) (refl, tt)
 
-cast-read-voted : tie.Need-cast-read-voted
-cast-read-voted c = search needs
-
 add-read-voted : tie.Need-add-read-voted
-add-read-voted c = search needs
+add-read-voted c = omega (arith, less-small (c .before .before .before .before .before .before .before .before .before))
+
+cast-read-voted : tie.Need-cast-read-voted
+cast-read-voted c = omega (arith, r-small (c .before .before .before .before .before))
+
+cast-read-voted-2 : tie.Need-cast-read-voted-2
+cast-read-voted-2 c = omega (arith, w-small (c .before))
 
 read-voted-requires : tie.Need-read-voted-requires
 read-voted-requires c κs = (omega arith, (omega (arith, less-small (c .before .before .before .before .before .before .before .before .before .before)), c .before .before .before .before .before .before .before .before .before .before .before .before .before .before .before .before .before .before .before .pre))
@@ -169,7 +178,8 @@ read-suite-spec =
     enum-told-4
     no-suite-requires-5
     returns-5
-    cast-read-voted
     add-read-voted
+    cast-read-voted
+    cast-read-voted-2
     read-voted-requires
     returns-6)

@@ -2,7 +2,8 @@
 use borrow.Author.Needs.{needs}
 use native.Mathlib.Omega.{arith}
 use mathlib.Core.Path.{_≡_, refl, sym, _∙_}
-use Prim.Native.Nat.{_+_, _-_, _*_}
+use Prim.Native.Nat.{_+_, _-_, _*_, _^_, _<_}
+use Rattle.fields.proofs.Reread.{read-range}
 use Rattle.image.specs.Reader.{field}
 use Rattle.image.proofs.Matching.{field-is, field-short}
 use Rattle.image.proofs.Reading.{PlacesSoFar, places-start, places-more, places-fault, places-end, places-free}
@@ -35,6 +36,12 @@ returns c =
       sym (places-fault (field (a .bytes .now) 4) 0 (a .count) (a .at) (omega arith) (l .votes) (l .next) (l .i) (l .inv .0) 15 (c .before .before .before .loop-test .taken) (sym e)),
       (tt, places-free (field (a .bytes .now) 4) 0 (a .count) (a .at) (omega arith) (l .votes) (l .next) (l .i) (l .inv .0)),
     )
+
+cast-votes : tie.Need-cast-votes Inv-loop μ-loop
+cast-votes c =
+    let v = c .before .vote in
+    let h : v .given .0 .0 < 2 ^ 4 = read-range _ _ 4 _ (sym (c .before .before .before .read .ensures) ∙ v .given .1) in
+    omega arith
 
 mul-votes : tie.Need-mul-votes Inv-loop μ-loop
 mul-votes c = search needs
@@ -83,6 +90,7 @@ read-votes-spec =
     enum-known-vote
     enum-told
     returns
+    cast-votes
     mul-votes
     array-write-votes
     add-next

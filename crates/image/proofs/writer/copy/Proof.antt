@@ -6,15 +6,15 @@ use Prim.Native.Nat.{ℕ, _+_, _-_, _≤_, _<_}
 use native.Mathlib.Numerals.{add-one}
 use native.Mathlib.Nat.{zero-add}
 use lib.ListN.{length, take, drop, getD, set, length-set}
-use lib.Seq.{paste-suc}
+use lib.Seq.{paste-suc, take-length}
 use Rattle.image.proofs.writer.copy.Statement.{statement}
 use Rattle.image.proofs.writer.copy.Tie as tie
 
 abbrev Inv-loop : tie.InvT-loop
-Inv-loop from to₀ count i₀ to i = (to ≡ take i from ++ drop i to₀) × ((i ≤ count) × (length to ≡ length to₀))
+Inv-loop from to₀ i₀ to i = (to ≡ take i from ++ drop i to₀) × ((i ≤ length from) × (length to ≡ length to₀))
 
 abbrev μ-loop : tie.MeasureT-loop
-μ-loop from to₀ count i₀ to i = count - i
+μ-loop from to₀ i₀ to i = length from - i
 
 -- one byte more
 more : (from to₀ to : List ℕ) (i : ℕ) → i < length to₀ → i < length from → to ≡ take i from ++ drop i to₀
@@ -54,9 +54,12 @@ same-length c = c .before .loop .inv .1 .1
 
 returns : tie.Need-returns Inv-loop μ-loop
 returns c =
-    let e : c .before .loop .i ≡ c .before .before .args .count = omega arith in
+    let from = c .before .before .args .from .now in
+    let to = c .before .before .args .to .now in
+    let e : c .before .loop .i ≡ length from = omega arith in
     c .before .loop .inv .0
-    ∙ ap (λ (n : ℕ). take n (c .before .before .args .from .now) ++ drop n (c .before .before .args .to .now)) e
+    ∙ ap (λ (n : ℕ). take n from ++ drop n to) e
+    ∙ ap (λ (l : List ℕ). l ++ drop (length from) to) (take-length from)
 
 pub copy-spec : {M : Type 1} → statement M
 copy-spec =

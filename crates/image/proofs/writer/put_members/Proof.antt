@@ -1,6 +1,6 @@
 -- `put_members` puts the members, one after another.
 use native.Mathlib.Omega.{arith}
-use mathlib.Core.Path.{_≡_, sym, ap, _∙_}
+use mathlib.Core.Path.{_≡_, sym, ap, subst, _∙_}
 use mathlib.Core.List.{[], map}
 use Prim.Native.Nat.{_+_, _*_, _-_, _≤_}
 use lib.ListN.{length, take, length-map, List·getD-map}
@@ -8,8 +8,8 @@ use lib.Seq.{getD-take, length-take-le}
 use Rattle.member.specs.declared.Member.{Member}
 use Rattle.tile.specs.Lent.{tileIn}
 use Rattle.image.specs.Layout.{memberPieces, widths}
-use Rattle.image.specs.Writer.{putAll}
-use Rattle.image.proofs.Putting.{PutUpTo, put-start, put-more, put-end, put-length}
+use Rattle.image.specs.Writer.{Appended}
+use Rattle.image.proofs.Putting.{PutUpTo, put-start, put-more, put-end}
 use Rattle.image.proofs.writer.put_members.Statement.{statement}
 use Rattle.image.proofs.writer.put_members.Tie as tie
 
@@ -30,7 +30,10 @@ index-1-put-member : tie.Need-index-1-put-member Inv-loop μ-loop
 index-1-put-member c = omega arith
 
 put-member-requires : tie.Need-put-member-requires Inv-loop μ-loop
-put-member-requires c κs = omega arith
+put-member-requires c κs =
+    let l = c .before .before .before .loop in
+    let same = l .inv .0 .put .same-length in
+    omega arith
 
 add-i : tie.Need-add-i Inv-loop μ-loop
 add-i c = omega arith
@@ -52,13 +55,13 @@ loop-again c =
     ∙ List·getD-map tileIn t (l .i) []
     in (
       put-more (memberPieces 20) (take (a .count) (map tileIn t)) (a .out .now) (a .at) (tileIn []) (l .out) (p .last .0) (l .next) (p .result) (l .i) (l .inv .0) (omega arith)
-          (p .ensures .1 .1 ∙ ap (λ (x : Member). putAll (l .out) (l .next) (memberPieces 20 x)) (sym m))
+          (subst (λ (x : Member). Appended (l .out) (l .next) (memberPieces 20 x) (p .last .0)) (sym m) (p .ensures .1 .1))
           (p .ensures .0 ∙ ap (λ (x : Member). l .next + widths (memberPieces 20 x)) (sym m)),
       omega (arith, p .ensures .1 .0),
     )
 
 same-length : tie.Need-same-length Inv-loop μ-loop
-same-length c = put-length (memberPieces 20) _ _ _ _ _ _ (c .before .loop .inv .0)
+same-length c = c .before .loop .inv .0 .put .same-length
 
 returns : tie.Need-returns Inv-loop μ-loop
 returns c =

@@ -1,16 +1,16 @@
 -- `put_rows` puts the entries of a member, one after another.
 use borrow.Author.Needs.{needs}
 use native.Mathlib.Omega.{arith}
-use mathlib.Core.Path.{_≡_, sym, ap, _∙_}
+use mathlib.Core.Path.{_≡_, sym, ap, subst}
 use Prim.Native.Nat.{ℕ, _+_, _*_, _-_, _≤_, _<_}
 use lib.ListN.{length, getD}
 use Rattle.member.specs.Tile.{none, entries}
 use Rattle.member.specs.declared.Row.{Row}
 use Rattle.tile.specs.Lent.{tileIn}
 use Rattle.image.specs.Layout.{rowPieces}
-use Rattle.image.specs.Writer.{putAll}
+use Rattle.image.specs.Writer.{Appended}
 use Rattle.image.proofs.Lengths.{row-widths}
-use Rattle.image.proofs.Putting.{PutUpTo, put-start, put-more, put-end, put-length}
+use Rattle.image.proofs.Putting.{PutUpTo, put-start, put-more, put-end}
 use Rattle.image.proofs.writer.put_rows.Statement.{statement}
 use Rattle.image.proofs.writer.put_rows.Tie as tie
 
@@ -30,7 +30,10 @@ entry-requires : tie.Need-entry-requires Inv-loop μ-loop
 entry-requires c κs = search needs
 
 put-row-requires : tie.Need-put-row-requires Inv-loop μ-loop
-put-row-requires c κs = omega arith
+put-row-requires c κs =
+    let l = c .before .before .before .loop in
+    let same = l .inv .0 .put .same-length in
+    omega arith
 
 add-next : tie.Need-add-next Inv-loop μ-loop
 add-next c = omega arith
@@ -43,18 +46,19 @@ loop-less c = omega arith
 
 loop-again : tie.Need-loop-again Inv-loop μ-loop
 loop-again c =
-    let m = c .before .before .before .before .before .before .before .before .before .args .tile .now in
-    let n = c .before .before .before .before .before .before .loop .next in
-    let i = c .before .before .before .before .before .before .loop .i in
-    let h : i < length (entries (tileIn m)) = omega (arith, c .before .before .before .before .before .before .before .size .ensures .0, c .before .before .before .before .before .loop-test .taken) in (
-      put-more (rowPieces 20) (entries (tileIn m)) (c .before .before .before .before .before .before .before .before .before .args .out .now) (c .before .before .before .before .before .before .before .before .before .args .at) none (c .before .before .before .before .before .before .loop .out) (c .before .before .put-row .last .0) n (n + 84) i (c .before .before .before .before .before .before .loop .inv .0) h
-          (c .before .before .put-row .ensures ∙ ap (λ (r : Row). putAll (c .before .before .before .before .before .before .loop .out) n (rowPieces 20 r)) (c .before .before .before .before .entry .ensures))
-          (ap (λ (k : ℕ). n + k) (sym (row-widths 20 (getD (entries (tileIn m)) i none)))),
+    let a = c .before .before .before .before .before .before .before .before .before .args in
+    let l = c .before .before .before .before .before .before .loop in
+    let m = tileIn (a .tile .now) in
+    let p = c .before .before .put-row in
+    let h : l .i < length (entries m) = omega (arith, c .before .before .before .before .before .before .before .size .ensures .0, c .before .before .before .before .before .loop-test .taken) in (
+      put-more (rowPieces 20) (entries m) (a .out .now) (a .at) none (l .out) (p .last .0) (l .next) (l .next + 84) (l .i) (l .inv .0) h
+          (subst (λ (r : Row). Appended (l .out) (l .next) (rowPieces 20 r) (p .last .0)) (c .before .before .before .before .entry .ensures) (p .ensures))
+          (ap (λ (k : ℕ). l .next + k) (sym (row-widths 20 (getD (entries m) (l .i) none)))),
       omega arith,
     )
 
 same-length : tie.Need-same-length Inv-loop μ-loop
-same-length c = put-length (rowPieces 20) _ _ _ _ _ _ (c .before .loop .inv .0)
+same-length c = c .before .loop .inv .0 .put .same-length
 
 returns : tie.Need-returns Inv-loop μ-loop
 returns c =

@@ -2,13 +2,12 @@
 use borrow.Author.Needs.{needs}
 use native.Mathlib.Omega.{arith}
 use mathlib.Core.Path.{_≡_, refl, sym, ap, _∙_}
-use Prim.Native.Nat.{ℕ, _+_, _*_, _-_}
+use Prim.Native.Nat.{_+_, _*_, _-_}
 use lib.ListN.{length, take}
 use lib.Seq.{getD-take, length-take-le}
-use Rattle.fields.specs.Field.{putOf}
+use Rattle.fields.specs.Field.{appendOf}
 use Rattle.image.specs.Layout.{votePieces, widths}
-use Rattle.image.specs.Writer.{putAll}
-use Rattle.image.proofs.Putting.{PutUpTo, put-start, put-more, put-end, put-length}
+use Rattle.image.proofs.Putting.{PutUpTo, appended-field, put-start, put-more, put-end}
 use Rattle.image.proofs.writer.put_votes.Statement.{statement}
 use Rattle.image.proofs.writer.put_votes.Tie as tie
 
@@ -21,14 +20,17 @@ abbrev μ-loop : tie.MeasureT-loop
 loop-holds : tie.Need-loop-holds Inv-loop μ-loop
 loop-holds c = (put-start votePieces _ _ _, omega arith)
 
-mul-put : tie.Need-mul-put Inv-loop μ-loop
-mul-put c = search needs
+mul-append : tie.Need-mul-append Inv-loop μ-loop
+mul-append c = search needs
 
-array-read-put : tie.Need-array-read-put Inv-loop μ-loop
-array-read-put c = search needs
+array-read-append : tie.Need-array-read-append Inv-loop μ-loop
+array-read-append c = search needs
 
-put-requires : tie.Need-put-requires Inv-loop μ-loop
-put-requires c κs = search needs
+cast-append : tie.Need-cast-append Inv-loop μ-loop
+cast-append c = search needs
+
+append-requires : tie.Need-append-requires Inv-loop μ-loop
+append-requires c κs = search needs
 
 add-next : tie.Need-add-next Inv-loop μ-loop
 add-next c = omega arith
@@ -40,20 +42,22 @@ loop-less : tie.Need-loop-less Inv-loop μ-loop
 loop-less c = omega arith
 
 loop-again : tie.Need-loop-again Inv-loop μ-loop
-unfolding votePieces putAll widths
+unfolding votePieces widths
 loop-again c =
     let a = c .before .before .before .before .before .before .before .args in
     let l = c .before .before .before .before .before .loop in
     let e : length (a .t3) ≡ 8 = search needs in
-    let n : length (take (a .count) (a .t3)) ≡ a .count = length-take-le (a .count) (a .t3) (omega arith) in (
-      put-more votePieces (take (a .count) (a .t3)) (a .out .now) (a .at) 0 (l .out) (c .before .before .put .last .0) (l .next) (l .next + 4) (l .i) (l .inv .0) (omega arith)
-          (c .before .before .put .ensures ∙ ap (λ (v : ℕ). putOf (l .out) (l .next) 4 v) (sym (getD-take (a .count) (a .t3) (l .i) 0 (c .before .before .before .before .loop-test .taken))))
+    let n : length (take (a .count) (a .t3)) ≡ a .count = length-take-le (a .count) (a .t3) (omega arith) in
+    let same : length (l .out) ≡ length (a .out .now) = l .inv .0 .put .same-length in
+    let v = getD-take (a .count) (a .t3) (l .i) 0 (c .before .before .before .before .loop-test .taken) in (
+      put-more votePieces (take (a .count) (a .t3)) (a .out .now) (a .at) 0 (l .out) (c .before .before .append .last .0) (l .next) (l .next + 4) (l .i) (l .inv .0) (omega arith)
+          (appended-field (l .out) (c .before .before .append .last .0) (l .next) 4 _ (omega arith) (omega arith) (c .before .before .append .ensures ∙ ap (appendOf (l .out) (l .next) 4) (sym v)))
           refl,
       omega arith,
     )
 
 same-length : tie.Need-same-length Inv-loop μ-loop
-same-length c = put-length votePieces _ _ _ _ _ _ (c .before .loop .inv .0)
+same-length c = c .before .loop .inv .0 .put .same-length
 
 returns : tie.Need-returns Inv-loop μ-loop
 returns c =
@@ -71,9 +75,10 @@ put-votes-spec =
     Inv-loop
     μ-loop
     loop-holds
-    mul-put
-    array-read-put
-    put-requires
+    mul-append
+    array-read-append
+    cast-append
+    append-requires
     add-next
     add-i
     loop-less

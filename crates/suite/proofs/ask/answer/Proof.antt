@@ -4,7 +4,6 @@ use borrow.Author.Needs.{needs}
 use Rattle.suite.specs.Calls.{answerTo}
 use Rattle.suite.specs.Rows.{rowOf, readingRow, aroundRow, offersRow, fitRow}
 use Rattle.suite.specs.declared.Question.{Question}
-use Rattle.suite.proofs.Bounds.{offer-within, below-within, above-within}
 use Rattle.suite.proofs.ask.answer.Statement.{statement}
 use Rattle.suite.proofs.ask.answer.Tie as tie
 
@@ -36,9 +35,7 @@ offer-above-requires : tie.Need-offer-above-requires
 offer-above-requires c κs = search needs
 
 offers-row-requires : tie.Need-offers-row-requires
-offers-row-requires c κs =
-    let s = c .before .before .before .before .before .args in
-    (offer-within _ (c .before .offer-below .ensures) (below-within (s .m) _ _ _), offer-within _ (c .offer-above .ensures) (above-within (s .m) _ _ _))
+offers-row-requires c κs = search needs
 
 enum-known-question-4 : tie.Need-enum-known-question-4
 enum-known-question-4 c = search needs
