@@ -94,15 +94,6 @@ module _ {f g : List Row → ℕ} {u t : Row → Bool} (c : Cut f g u t) where
       go true e h = rw (c′ .below-cons r (take (f l) l), up r e, h)
       go false e h = c′ .below-nil
 
--- so a search for that goes on where other rows stand above them
-module _ {f g : List Row → ℕ} {u t : Row → Bool} (c : Cut f g u t) {f′ g′ : List Row → ℕ} {u′ t′ : Row → Bool} (c′ : Cut f′ g′ u′ t′)
-    (up : (r : Row) → u r ≡ true → u′ r ≡ true) (l b : List Row) where
-  pub below-after : f′ (take (f l) l ++ b) ≡ f l + f′ b
-  below-after = below-append c′ (take (f l) l) b (all-below c c′ up l) ∙ rw (length-below c l)
-
-  pub past-after : g′ (take (f l) l ++ b) ≡ f l + g′ b
-  past-after = past-append c′ (take (f l) l) b (all-below c c′ up l) ∙ rw (length-below c l)
-
 -- What stands below the one, or at it, stands below the other.
 pub record Before (under here under′ : Row → Bool) : Type 0 where
   pub lower : (r : Row) → under r ≡ true → under′ r ≡ true

@@ -11,7 +11,7 @@ use lib.Seq.{drop-length}
 use lib.Dec.{ltb, leb, eqb}
 use borrow.Author.Tests.{leb-true, le-leb, ltb-true}
 use Rattle.member.specs.Limits.{largestName, largestValue, largestVersion, slots, high}
-use Rattle.member.specs.Tile.{none, emptyTile, freshTile, entries, unused, holding, readingOf}
+use Rattle.member.specs.Tile.{none, emptyTile, freshTile, entries, unused, holding}
 use Rattle.member.specs.Search.{nextIn, pastEnd, belowEnd, gapBelow, endBelow}
 use Rattle.member.specs.Change.{rowWith, written, without, fitting, writeOf, dropOf, coalesced, lowSet, coalesceOf, goesAbove, appendOf}
 use Rattle.member.specs.Sound.{inRange, ascends, isNone, allNone, soundMember}
@@ -20,7 +20,7 @@ use Rattle.member.specs.EndLaws.{EndKind, isLow, isName, isHigh, endKind
 use Rattle.member.specs.Normal.{written-is, coalesced-is}
 use Rattle.member.specs.AscendLaws.{InRange, in-range, Ascends, asc-nil, asc-cons, asc-parts, asc-take, asc-drop, asc-without, asc-snoc, asc-gap}
 use Rattle.member.specs.Places.{place, hiPlace, rowPlace, atPlaceIn, atPlace, boundReading}
-use Rattle.member.specs.ReadingLaws.{Order, less, same, more, order, read-nil, read-same, read-less, read-more, at-low, at-high, at-rows, reading-at}
+use Rattle.member.specs.ReadingLaws.{Order, less, same, more, order, read-nil, read-same, read-less, read-more, at-low, at-high, at-rows}
 use Rattle.member.specs.declared.Row.{Row}
 use Rattle.member.specs.declared.Bound.{Bound}
 use Rattle.member.specs.declared.Member.{Member}
@@ -204,9 +204,6 @@ ranged-rows x g (r ∷ l) z a h = let p = asc-parts x r l a in go (order (rowPla
 
 pub shown-ranged : (m : Member) (z : ℕ) → soundMember m ≡ true → 0 < z → z < hiPlace → Ranged (atPlace m z)
 shown-ranged m z h a b = let p = sound-parts m h in rw (at-rows m z a b) (ranged-rows 0 (m .low) (entries m) z (p .ascending) (p .low-max))
-
-pub reading-ranged : (m : Member) (x : ℕ) → soundMember m ≡ true → Ranged (readingOf m x)
-reading-ranged m x h = let p = sound-parts m h in rw (reading-at (m .low) (entries m) x) (ranged-rows 0 (m .low) (entries m) (place (suc x)) (p .ascending) (p .low-max))
 
 -- so a bound that a sound member shows may be written into another
 pub shown-bound : (m : Member) (b : Bound) → soundMember m ≡ true → b .end ≤ high → atPlace m (place (b .end)) ≡ boundReading b → BoundRange b

@@ -4,9 +4,8 @@ use mathlib.Core.List.{List, [], _∷_, _++_}
 use mathlib.Core.Bool.{Bool, true, false, cond}
 use Prim.Native.Nat.{ℕ, _+_, _*_}
 use lib.Count.{ones}
-use lib.Dec.{ltb, eqb}
+use lib.Dec.{ltb}
 use lib.ListN.{length}
-use borrow.Author.Tests.{ne-eqb}
 use Rattle.member.specs.Limits.{largestVersion}
 use Rattle.member.specs.declared.Reading.{Reading}
 use Rattle.member.specs.declared.Reading.the-variants.{Entry, Gap}
@@ -14,7 +13,7 @@ use Rattle.member.specs.declared.Offer.the-variants.{Nothing}
 use Rattle.suite.specs.Best.{best}
 use Rattle.suite.specs.Sets.{changed, exists}
 use Rattle.suite.specs.Suite.{tiles, ballots, withTiles}
-use Rattle.suite.specs.Outcome.{Outcome, answered, refused}
+use Rattle.suite.specs.Outcome.{answered, refused}
 use Rattle.suite.specs.Calls.{Call, insert, update, remove, Marked, askedOf, itsReading, itsBelow, itsAbove, itsOfferBelow, itsOfferAbove, newest, newer, higher, noSide, versionOf, readingAnswers, roundOne, roundTwo, rounds, answers, gapBelowIn, gapAboveIn, predecessor, successor, boundOr, nearer, rankBelow, rankAbove, allFit, judged, granted, settle, effectOf, written, writeSet, resulting, stepOf}
 use Rattle.suite.specs.Rows.{surveyOf}
 use Rattle.suite.specs.Steps.{grantedOf, putOf, gapOf, joinOf}
@@ -56,11 +55,6 @@ rounds-survey s set x =
       below = boundOr (sym below j);
       above = boundOr (sym above j);
     }
-
--- A call whose own numbers are refused.
-pub refused-step : (s : Suite) (c : Call) (n : ℕ) (o : Outcome) (l : List Marked) → (n ≡ 0 → ⊥)
-    → resulting s c l (cond (eqb n 0) o (refused n)) ≡ record { outcome = refused n; suite = s }
-refused-step s c n o l h = rw (ne-eqb n 0 h)
 
 -- An accepted or refused change, from its parts.
 granted-result : (s : Suite) (c : Call) (l : List Marked) (g q : ℕ) (fit : Question) (e : Effect)

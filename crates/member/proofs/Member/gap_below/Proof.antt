@@ -2,7 +2,6 @@ use borrow.Author.Needs.{needs}
 use mathlib.Core.Path.{_≡_}
 use native.Mathlib.Omega.{arith}
 use lib.ListN.{length}
-use Rattle.member.specs.Tile.{entries}
 use Rattle.member.proofs.Rows.{length-of-map, entries-le, gap-below-at}
 use Rattle.member.proofs.Member.gap_below.Statement.{statement}
 use Rattle.member.proofs.Member.gap_below.Tie as tie
