@@ -1,1 +1,2 @@
 // A chain of bench calls against one plain directory. Nothing here runs; the definitions and theorems are in specs/.
+#![tactic(auto)]

@@ -1,4 +1,5 @@
 // The line program over standard input and standard output. It only moves bytes: what is answered is settled in crate `run`.
+#![tactic(auto)]
 use libc::{STDIN_FILENO, STDOUT_FILENO};
 use run::Session;
 
@@ -8,7 +9,7 @@ const CHUNK: usize = 65_536;
 const CHUNKS: usize = 256;
 
 // What is left to do: the session, and whether to go on. A write that fails ends the program.
-#[derive(Drop)]
+#[derive(Clone, Copy)]
 pub struct Going {
     pub session: Session,
     pub on: bool,

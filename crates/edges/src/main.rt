@@ -1,6 +1,7 @@
 // Runs every example of the rules paper that is not a line of its listing. Each call is a line: the call as the line program
 // has it, an arrow, and what came of it with the requests last. A line that begins with # says what the calls below show.
 // The stored output is what the second program says.
+#![tactic(auto)]
 mod build;
 mod calls;
 mod dead;

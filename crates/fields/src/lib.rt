@@ -1,11 +1,13 @@
 // Bit fields of an image, most significant bit first: reading one, and appending one.
+#![tactic(auto)]
+
 ghost use Rattle.std.specs.Prelude.{◌≡◌, ◌+◌, ◌-◌, ◌*◌, ◌^◌, ◌≤◌, ◌<◌, length, get_or};
 ghost use Rattle.std.proofs.lemmas.List.Edits.{sets};
 ghost use Rattle.fields.specs.Field.{fits_in, read_of, has_word, word_of, append_of, after_of};
 ghost use Rattle.fields.specs.Word.{number_at, word_at, bytes_in, with_word, part_of, join_of, behind_of};
 
 // A field of an image: its number, or the image ends before the field does.
-#[derive(Drop)]
+#[derive(Clone, Copy)]
 pub enum Field {
     Is(u64),
     Short,

@@ -1,4 +1,5 @@
 // Every edge of the grammar, run.
+#![tactic(auto)]
 fn main() {
     console::console();
 }

@@ -1,1 +1,2 @@
 // No code that runs: the theory is in specs/.
+#![tactic(auto)]

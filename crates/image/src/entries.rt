@@ -14,7 +14,7 @@ use member::Row;
 use suite::Refusal;
 
 // An entry, or the first fault in it.
-#[derive(Drop)]
+#[derive(Clone, Copy)]
 pub enum Entry {
     Is(Row),
     No(Refusal),

@@ -1,4 +1,5 @@
 // The suite image: a suite as bytes, written and read back. The members stand in lent tiles.
+#![tactic(auto)]
 mod entries;
 mod reader;
 mod writer;
@@ -19,7 +20,7 @@ const EDITION: u64 = 1;
 const NAME: u32 = 20;
 
 // What the writer answers.
-#[derive(Drop)]
+#[derive(Clone, Copy)]
 pub enum Written {
     Done { length: usize },
     No(Refusal),
@@ -60,14 +61,14 @@ pub fn fill(image: &[u8], out: &mut [u8]) -> Written
 }
 
 // What the reader answers.
-#[derive(Drop)]
+#[derive(Clone, Copy)]
 pub enum Loading {
     Done,
     No(Refusal),
 }
 
 // On a refusal the frame beside it has no members.
-#[derive(Drop)]
+#[derive(Clone, Copy)]
 pub struct Loaded {
     pub answer: Loading,
     pub frame: Frame,

@@ -15,20 +15,20 @@ use fields::Field;
 use suite::{Frame, Refusal};
 
 // The bit at which the next field starts, or the first fault. What was read stands beside it.
-#[derive(Drop)]
+#[derive(Clone, Copy)]
 pub enum Place {
     At(usize),
     No(Refusal),
 }
 
-#[derive(Drop)]
+#[derive(Clone, Copy)]
 pub struct Ballots {
     pub place: Place,
     pub votes: [u32; 8],
 }
 
 // The votes, R and W stand beside the place; the members stand in lent tiles.
-#[derive(Drop)]
+#[derive(Clone, Copy)]
 pub struct Parsed {
     pub place: Place,
     pub frame: Frame,

@@ -1,4 +1,5 @@
 // One command line in, its answer out, on a suite whose members stand in lent tiles.
+#![tactic(auto)]
 mod commands;
 mod creation;
 mod reply;
@@ -12,14 +13,14 @@ use suite::Frame;
 use text::Reply;
 
 // Whether a suite has been accepted, and all of it but its members, which stand in lent tiles.
-#[derive(Drop)]
+#[derive(Clone, Copy)]
 pub struct State {
     pub made: bool,
     pub frame: Frame,
 }
 
 // What a line is answered, and the state after it.
-#[derive(Drop)]
+#[derive(Clone, Copy)]
 pub struct Said {
     pub reply: Reply,
     pub state: State,

@@ -1,4 +1,5 @@
 // The rules paper's listing, run.
+#![tactic(auto)]
 fn main() {
     console::console();
 }

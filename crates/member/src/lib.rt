@@ -1,6 +1,7 @@
 // One tile of the directory: everything that a member of a suite can be asked, and its changes. Nothing of votes or sets.
 //
 // An end is a number that LOW, the names and HIGH have in common: LOW is 0, the name n is n + 1, HIGH is Name::HIGH.
+#![tactic(auto)]
 mod ask;
 mod change;
 mod coalesce;
@@ -15,7 +16,7 @@ pub use search::end_of;
 pub use sound::{in_range, is_none};
 
 // A name, user × 16 + process.
-#[derive(Drop)]
+#[derive(Clone, Copy)]
 pub struct Name(pub u32);
 
 impl Name {
@@ -25,7 +26,7 @@ impl Name {
 }
 
 // The version of an entry, from 1, or of a gap, from 0.
-#[derive(Drop)]
+#[derive(Clone, Copy)]
 pub struct Version(pub u32);
 
 impl Version {
@@ -33,7 +34,7 @@ impl Version {
 }
 
 // What an entry keeps for its name; opaque here.
-#[derive(Drop)]
+#[derive(Clone, Copy)]
 pub struct Value(pub u32);
 
 impl Value {
@@ -41,21 +42,21 @@ impl Value {
 }
 
 // What a member holds at a name: its entry, or else the gap around the name.
-#[derive(Drop)]
+#[derive(Clone, Copy)]
 pub enum Reading {
     Entry { version: u32, value: u32 },
     Gap { version: u32 },
 }
 
 // A gap as seen from a name: its version, and the entry at which it ends.
-#[derive(Drop)]
+#[derive(Clone, Copy)]
 pub struct Side {
     pub version: u32,
     pub end: u32,
 }
 
 // The answer of round one.
-#[derive(Drop)]
+#[derive(Clone, Copy)]
 pub struct Around {
     pub reading: Reading,
     pub below: Side,
@@ -63,7 +64,7 @@ pub struct Around {
 }
 
 // An entry by its end; LOW and HIGH have version 0 and value 0.
-#[derive(Drop)]
+#[derive(Clone, Copy)]
 pub struct Bound {
     pub end: u32,
     pub version: u32,
@@ -71,14 +72,14 @@ pub struct Bound {
 }
 
 // The answer of round two.
-#[derive(Drop)]
+#[derive(Clone, Copy)]
 pub enum Offer {
     Is(Bound),
     Nothing,
 }
 
 // An entry in its place, with the version of the gap above it.
-#[derive(Drop)]
+#[derive(Clone, Copy)]
 pub struct Row {
     pub name: u32,
     pub version: u32,
@@ -97,7 +98,7 @@ impl Row {
 }
 
 // A tile: its entries in the lowest `count` places, and the version of the gap above LOW.
-#[derive(Drop)]
+#[derive(Clone, Copy)]
 pub struct Member {
     low: u32,
     count: usize,

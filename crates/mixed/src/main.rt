@@ -1,4 +1,5 @@
 // A mixed script, run.
+#![tactic(auto)]
 fn main() {
     console::console();
 }

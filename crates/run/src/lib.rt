@@ -1,5 +1,6 @@
 // The line program over a text that comes in chunks of any size. The answers are the same however the text is cut, and a long
 // line needs no more memory than a short one.
+#![tactic(auto)]
 mod hold;
 mod lines;
 
@@ -13,7 +14,7 @@ use text::Reply;
 
 // What stands between two chunks; the suite's members stand in lent tiles. Of a line that is not ended the first bytes are
 // held: one more than a line may have tells that it is too long.
-#[derive(Drop)]
+#[derive(Clone, Copy)]
 pub struct Session {
     pub state: State,
     pub line: [u8; Session::HELD],
@@ -21,7 +22,7 @@ pub struct Session {
 }
 
 // Whether a chunk was run, or why not.
-#[derive(Drop)]
+#[derive(Clone, Copy)]
 pub enum Went {
     Well,
     No(Refusal),
@@ -29,7 +30,7 @@ pub enum Went {
 
 // How many bytes of the text were taken and how many of the output were written; on a refusal none, and the session is the
 // one that went in.
-#[derive(Drop)]
+#[derive(Clone, Copy)]
 pub struct Ran {
     pub went: Went,
     pub session: Session,

@@ -1,1 +1,2 @@
 // A run of command lines against one plain directory. Nothing here runs; the definitions and theorems are in specs/.
+#![tactic(auto)]

@@ -1,6 +1,7 @@
 // A suite: one directory on one to eight members with votes. Creation, the five calls, every refusal.
 //
 // A suite uses a member only through what it promises: it never looks into rows.
+#![tactic(auto)]
 mod ask;
 mod ballot;
 mod calls;
@@ -19,7 +20,7 @@ use member::{Bound, Member, Reading, Side};
 pub use rounds::Survey;
 
 // Why a call is refused; the paper's number of each is `Refusal::number`.
-#[derive(Drop)]
+#[derive(Clone, Copy)]
 pub enum Refusal {
     Unsound,
     Members,
@@ -71,14 +72,14 @@ impl Refusal {
 }
 
 // A lookup's answer carries either a reading or a refusal.
-#[derive(Drop)]
+#[derive(Clone, Copy)]
 pub enum Looked {
     Is { reading: Reading, requests: u32 },
     No(Refusal),
 }
 
 // A neighbour query's answer: the ends of the predecessor and of the successor.
-#[derive(Drop)]
+#[derive(Clone, Copy)]
 pub enum Near {
     Is {
         below: u32,
@@ -89,41 +90,41 @@ pub enum Near {
 }
 
 // What insert, update and remove answer.
-#[derive(Drop)]
+#[derive(Clone, Copy)]
 pub enum Change {
     Done { version: u32, requests: u32 },
     No(Refusal),
 }
 
 // The suite stands beside the answer: on a refusal it is the one that went in.
-#[derive(Drop)]
+#[derive(Clone, Copy)]
 pub struct Changed {
     pub answer: Change,
     pub suite: Suite,
 }
 
 // What creation answers; on a refusal the suite beside it has no members.
-#[derive(Drop)]
+#[derive(Clone, Copy)]
 pub enum Creation {
     Done,
     No(Refusal),
 }
 
-#[derive(Drop)]
+#[derive(Clone, Copy)]
 pub struct Created {
     pub answer: Creation,
     pub suite: Suite,
 }
 
 // What the judging of a call's own numbers comes to.
-#[derive(Drop)]
+#[derive(Clone, Copy)]
 pub enum Judged {
     Fine,
     No(Refusal),
 }
 
 // What a member is asked.
-#[derive(Drop)]
+#[derive(Clone, Copy)]
 pub enum Question {
     Reading { name: u32 },
     Around { name: u32 },
@@ -133,7 +134,7 @@ pub enum Question {
 }
 
 // What is written to a member.
-#[derive(Drop)]
+#[derive(Clone, Copy)]
 pub enum Effect {
     Write {
         name: u32,
@@ -148,7 +149,7 @@ pub enum Effect {
 }
 
 // The members in the lowest `count` places with their votes; R votes make a read set, W votes a write set.
-#[derive(Drop)]
+#[derive(Clone, Copy)]
 pub struct Suite {
     pub members: [Member; 8],
     pub votes: [u32; 8],
@@ -158,7 +159,7 @@ pub struct Suite {
 }
 
 // A suite without its members: the votes, R, W and how many members there are.
-#[derive(Drop)]
+#[derive(Clone, Copy)]
 pub struct Frame {
     pub votes: [u32; 8],
     pub read: u32,

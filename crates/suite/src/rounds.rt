@@ -9,7 +9,7 @@ use crate::{Question, Suite};
 use member::{Bound, Reading, Side};
 
 // What the two rounds find: the newest reading at the name, the versions of the gaps next to it, its neighbours.
-#[derive(Drop)]
+#[derive(Clone, Copy)]
 pub struct Survey {
     pub reading: Reading,
     pub lower: u32,

@@ -9,7 +9,7 @@ use crate::scan::{Number, Set};
 use crate::{Command, Members, Parsed, scan};
 
 // What a command's word says of its arguments.
-#[derive(Drop)]
+#[derive(Clone, Copy)]
 pub(crate) enum Kind {
     Read { near: bool },
     Change(Change),
@@ -17,7 +17,7 @@ pub(crate) enum Kind {
     Other,
 }
 
-#[derive(Drop)]
+#[derive(Clone, Copy)]
 pub(crate) enum Change {
     Put { update: bool },
     Remove,

@@ -1,4 +1,5 @@
 // One command line in, and one answer line out, as bytes. Nothing here knows what a suite is.
+#![tactic(auto)]
 mod grammar;
 mod scan;
 mod write;
@@ -8,13 +9,13 @@ ghost use Rattle.text.specs.Line.{command_of, alone, suite_of};
 ghost use Rattle.text.specs.Answer.{text_of, place_after, printed};
 
 // A set of members as a line gives it: `-` is everyone.
-#[derive(Drop)]
+#[derive(Clone, Copy)]
 pub enum Members {
     Everyone,
     Only(u32),
 }
 
-#[derive(Drop)]
+#[derive(Clone, Copy)]
 pub enum Command {
     Suite {
         read: u32,
@@ -54,7 +55,7 @@ impl Command {
 }
 
 // A command, with the votes of `suite`: the first eight, zeros after them, and how many there were.
-#[derive(Drop)]
+#[derive(Clone, Copy)]
 pub struct Parsed {
     pub command: Command,
     pub votes: [u32; Parsed::VOTES],
@@ -97,7 +98,7 @@ pub fn ballots(line: &[u8]) -> Parsed
 }
 
 // What a line is answered.
-#[derive(Drop)]
+#[derive(Clone, Copy)]
 pub enum Reply {
     SuiteOk,
     Ok {

@@ -6,7 +6,7 @@ ghost use Rattle.text.specs.Scan.{letters_of, ends_at, dash_at, number_on, numbe
 use crate::Members;
 
 // The number that the word at a place writes, with where the word ends; or the word writes none, or there is no word.
-#[derive(Drop)]
+#[derive(Clone, Copy)]
 pub(crate) enum Number {
     Is { value: u32, end: usize },
     Not,
@@ -17,7 +17,7 @@ impl Number {
 }
 
 // The same for a word that may be `-`.
-#[derive(Drop)]
+#[derive(Clone, Copy)]
 pub(crate) enum Set {
     Is { members: Members, end: usize },
     Not,

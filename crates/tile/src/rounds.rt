@@ -102,7 +102,7 @@ fn offer_above(tile: &[u32; 130], at: usize, name: u32, k: u32, v: u32) -> Offer
 }
 
 // What a tile offers in round two.
-#[derive(Drop)]
+#[derive(Clone, Copy)]
 pub struct Offered {
     pub below: Offer,
     pub above: Offer,
