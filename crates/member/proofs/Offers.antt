@@ -48,6 +48,7 @@ above_from m x k v i s = rw s
 pub last_step : (m : Member) (k v i : ℕ) (o : Offer) (e : ℕ) (b : Bool) → 0 < i → i ≤ length (entries m)
     → e ≡ end_of (get_or m.rows (i - 1) none).name → b ≡ offered k v (ltb k e) (get_or m.rows (i - 1) none)
     → last_offer k v o (take i (entries m)) ≡ cond b (offer_of (get_or m.rows (i - 1) none)) (last_offer k v o (take (i - 1) (entries m)))
+last_step m k v zero o e b p h s t = elim p [ ]
 last_step m k v (suc i) o e b p h s t =
     let r = get_or m.rows i none in
     let t : b ≡ offered k v (ltb k (end_of r.name)) r = (rw sub-one at t) ∙ ap (λ (e : ℕ). offered k v (ltb k e) r) (rw sub-one at s) in

@@ -2,7 +2,7 @@
 use mathlib.Core.Path.{◌≡◌, refl, ap, sym, ◌∙◌, subst}
 use mathlib.Core.List.{List, [], ◌∷◌, map}
 use mathlib.Core.Bool.{Bool, true, false, cond}
-use Prim.Native.Nat.{ℕ, suc, ◌+◌, ◌-◌, ◌≤◌, ◌<◌}
+use Prim.Native.Nat.{ℕ, zero, suc, ◌+◌, ◌-◌, ◌≤◌, ◌<◌}
 use native.Mathlib.Omega.{arith}
 use native.Mathlib.Numerals.{add-one, sub-one}
 use borrow.Author.Tests.{lt-ltb, le-ltb, eq-eqb, ne_eqb}
@@ -90,7 +90,9 @@ next_other_rows m x i s f =
 
 -- the gap and the end below a place that is not the lowest
 pub gap_below_at : (m : Member) (i : ℕ) → 0 < i → i ≤ length (entries m) → (get_or m.rows (i - 1) none).gap ≡ gap_below m.low (entries m) i
+gap_below_at m zero h k = elim h [ ]
 gap_below_at m (suc i) h k = rw (sub-one, ← entry_at m i k)
 
 pub end_below_at : (m : Member) (i : ℕ) → 0 < i → i ≤ length (entries m) → end_of (get_or m.rows (i - 1) none).name ≡ end_below (entries m) i
+end_below_at m zero h k = elim h [ ]
 end_below_at m (suc i) h k = rw (sub-one, ← entry_at m i k)

@@ -90,9 +90,9 @@ module _ (low g : ℕ) (l : List Row) (v x : ℕ) where
     unfolding from_end r
     at_end_lem = rw (past_name l n i, row_name n v x (gap_below low l (next_in l n)) i) (read_same g r (drop (next_in l n) l) (place (suc n)) refl)
 
-    past_end : (z : ℕ) → place (suc n) < z → at_place_in g (from_end low l (bound (suc n) v x)) z ≡ at_place_in low l z
+    past_end_lem : (z : ℕ) → place (suc n) < z → at_place_in g (from_end low l (bound (suc n) v x)) z ≡ at_place_in low l z
     unfolding from_end r
-    past_end z h = rw (past_name l n i, row_name n v x (gap_below low l (next_in l n)) i) (read-less g r (drop (next_in l n) l) z h ∙ read_past low l n z h)
+    past_end_lem z h = rw (past_name l n i, row_name n v x (gap_below low l (next_in l n)) i) (read-less g r (drop (next_in l n) l) z h ∙ read_past low l n z h)
 
 -- then with the rows up to p below those.
 unfoldable up_to_end : List Row → Bound → ℕ → List Row → List Row
@@ -169,7 +169,7 @@ module _ (m : Member) (g : ℕ) where
   above-is P _ v x z is_low h k a = absurd (omega arith)
   above-is P _ v x z (is_name {n} i) h k a =
       holding-same m (low_set m.low P.end g) (up_to_end (entries m) P g (from_end m.low (entries m) (bound (suc n) v x))) z
-      (λ _ _. above-p P (bound (suc n) v x) z (omega arith) (omega arith) ∙ past_end m.low g (entries m) v x n i z a)
+      (λ _ _. above-p P (bound (suc n) v x) z (omega arith) (omega arith) ∙ past_end_lem m.low g (entries m) v x n i z a)
   above-is P _ v x z (is_high {e} i) h k a =
       holding-same m (low_set m.low P.end g) (up_to_end (entries m) P g (from_end m.low (entries m) (bound e v x))) z (λ _ b. absurd (omega arith))
 

@@ -1,0 +1,11 @@
+-- `text::scan::ends_at`: the line ends there, or the byte there is a space.
+use mathlib.Core.Path.{sym}
+use borrow.Author.Rules.{rules}
+use Rattle.text.proofs.Sets.{ends_past, ends_byte}
+use Rattle.text.proofs.scan.ends_at.Goals as goal
+
+pub returns-then-line-at : goal.returns-then-line-at
+returns-then-line-at c = sym (ends_past _ _ c.if-line-at.true)
+
+pub returns : goal.returns
+returns c = sym (ends_byte _ _ c.if-line-at.false)

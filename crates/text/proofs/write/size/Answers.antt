@@ -1,0 +1,56 @@
+-- `text::write::size`: by the kind of the answer.
+use borrow.Author.Rules.{rules}
+use native.Mathlib.Omega.{arith}
+use Rattle.text.proofs.Sizes.{text_size}
+use Rattle.text.proofs.write.size.Goals as goal
+
+pub overflow_add-result : goal.overflow_add-result
+overflow_add-result c = omega arith
+
+pub overflow_add-result-in-Removed : goal.overflow_add-result-in-Removed
+overflow_add-result-in-Removed c = omega arith
+
+pub overflow_add-result-in-Removed-2 : goal.overflow_add-result-in-Removed-2
+overflow_add-result-in-Removed-2 c = omega arith
+
+pub overflow_add-result-in-At : goal.overflow_add-result-in-At
+overflow_add-result-in-At c = omega arith
+
+pub overflow_add-result-in-At-2 : goal.overflow_add-result-in-At-2
+overflow_add-result-in-At-2 c = omega arith
+
+pub overflow_add-result-in-Absent : goal.overflow_add-result-in-Absent
+overflow_add-result-in-Absent c = omega arith
+
+pub overflow_add-result-in-Near : goal.overflow_add-result-in-Near
+overflow_add-result-in-Near c = omega arith
+
+pub overflow_add-result-in-Near-2 : goal.overflow_add-result-in-Near-2
+overflow_add-result-in-Near-2 c = omega arith
+
+pub overflow_add-result-in-Near-3 : goal.overflow_add-result-in-Near-3
+overflow_add-result-in-Near-3 c = omega arith
+
+pub overflow_add-result-in-Refused : goal.overflow_add-result-in-Refused
+overflow_add-result-in-Refused c = omega arith
+
+pub returns-in-SuiteOk : goal.returns-in-SuiteOk
+returns-in-SuiteOk c = rw (c.in-SuiteOk.is, text_size)
+
+pub returns-in-Ok : goal.returns-in-Ok
+returns-in-Ok c = rw (c.in-Ok.is, text_size) (omega arith)
+
+pub returns-in-Removed : goal.returns-in-Removed
+returns-in-Removed c = rw (c.in-Removed.is, text_size) (omega arith)
+
+pub returns-in-At : goal.returns-in-At
+returns-in-At c = rw (c.in-At.is, text_size) (omega arith)
+
+pub returns-in-Absent : goal.returns-in-Absent
+returns-in-Absent c = rw (c.in-Absent.is, text_size) (omega arith)
+
+pub returns-in-Near : goal.returns-in-Near
+returns-in-Near c = rw (c.in-Near.is, text_size) (omega arith)
+
+pub returns-in-Refused : goal.returns-in-Refused
+returns-in-Refused c = rw (c.in-Refused.is, text_size) (omega arith)
