@@ -2,7 +2,7 @@
 use Rattle.std.specs.Prelude.{◌≡◌, refl, List, [], ◌∷◌, ◌++◌, Bool, true, false, cond, ℕ, suc, ◌*◌, ◌≤◌, ◌<◌, length, take, drop, ltb, eqb}
 use Rattle.std.proofs.Common.{sym, ap, subst, ◌∙◌, arith, take-append-drop}
 use borrow.Author.Tests.{ltb-true, ltb-false, eqb-true, eqb-false, lt-ltb, le-ltb, le-leb, lt-leb, eq-eqb, ne_eqb}
-use Rattle.member.specs.Limits.{largest_name, high}
+use Rattle.member.specs.Limits.{largest_name}
 use Rattle.member.specs.Tile.{entries, holding, reading_in, reading_of}
 use Rattle.member.specs.Holding.{holding_low, holding-entries}
 use Rattle.member.specs.Search.{seat_in, next_in, gap_below}

@@ -2,6 +2,7 @@
 //
 // An end is a number that LOW, the names and HIGH have in common: LOW is 0, the name n is n + 1, HIGH is Name::HIGH.
 #![tactic(auto)]
+
 mod ask;
 mod change;
 mod coalesce;

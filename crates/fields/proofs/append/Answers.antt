@@ -1,6 +1,5 @@
 -- `fields::append` meets its contract: the word that it stores begins with the bits of the first byte before the field.
 -- Assumes nothing.
-use borrow.Author.Rules.{rules}
 use Prim.Native.Nat.{ℕ, ◌/◌, ◌-◌, ◌%◌, ◌^◌}
 use native.Mathlib.Omega.{arith}
 use mathlib.Core.Bool.{true}

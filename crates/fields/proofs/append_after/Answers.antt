@@ -1,6 +1,5 @@
 -- `fields::append_after` meets its contract: the word that it stores begins with the bits that were given.
 -- Assumes nothing.
-use borrow.Author.Rules.{rules}
 use native.Mathlib.Omega.{arith}
 use mathlib.Core.Bool.{true}
 use mathlib.Core.Path.{◌≡◌, sym, ◌∙◌}

@@ -1,6 +1,5 @@
 -- `fields::fits` meets its contract: a field is within n bytes exactly where the bytes that it touches are.
 -- Assumes nothing.
-use borrow.Author.Rules.{rules}
 use mathlib.Core.Path.{sym}
 use Rattle.fields.proofs.Answers.{fits_wide, fits_bytes}
 use Rattle.fields.proofs.fits.Goals as goal

@@ -1,6 +1,5 @@
 -- `fields::has_word` meets its contract: it asks what `has_word` asks.
 -- Assumes nothing.
-use borrow.Author.Rules.{rules}
 use mathlib.Core.Path.{sym}
 use Rattle.fields.proofs.Answers.{has_wide, has_bytes}
 use Rattle.fields.proofs.has_word.Goals as goal

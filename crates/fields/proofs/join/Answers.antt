@@ -1,6 +1,5 @@
 -- `fields::join` meets its contract: neither shift loses a bit.
 -- Assumes nothing.
-use borrow.Author.Rules.{rules}
 use Rattle.fields.proofs.Shifts.{join-room, join_is}
 use Rattle.fields.proofs.join.Goals as goal
 

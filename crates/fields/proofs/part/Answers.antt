@@ -1,6 +1,5 @@
 -- `fields::part` meets its contract: a mask of w ones keeps the remainder by 2 ^ w.
 -- Assumes nothing.
-use borrow.Author.Rules.{rules}
 use Rattle.fields.proofs.Shifts.{mask_room, mask_part}
 use Rattle.fields.proofs.part.Goals as goal
 

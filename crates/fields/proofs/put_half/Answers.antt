@@ -1,6 +1,5 @@
 -- `fields::put_half` meets its contract: four stores, one after the other.
 -- Assumes nothing.
-use borrow.Author.Rules.{rules}
 use native.Mathlib.Nat.{div-one}
 use native.Mathlib.Numerals.{unary_clauses}
 use native.Mathlib.Omega.{arith}

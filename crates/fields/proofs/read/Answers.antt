@@ -1,6 +1,5 @@
 -- `fields::read` meets its contract: the field is a part of the eight bytes around it.
 -- Assumes nothing.
-use borrow.Author.Rules.{rules}
 use Prim.Native.Nat.{ℕ, ◌≤◌}
 use native.Mathlib.Omega.{arith}
 use mathlib.Core.Bool.{true}

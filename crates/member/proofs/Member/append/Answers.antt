@@ -1,6 +1,5 @@
 -- `append` puts a row in above the last where the three tests hold.
 use mathlib.Core.Path.{sym, ◌∙◌}
-use borrow.Author.Rules.{rules}
 use Rattle.member.proofs.Writes.{append-full, append_low, append-out, append-above}
 use Rattle.member.proofs.Member.append.Goals as goal
 

@@ -1,5 +1,4 @@
 -- `around` is the three answers together.
-use borrow.Author.Rules.{rules}
 use Rattle.member.proofs.Member.around.Goals as goal
 
 pub returns : goal.returns

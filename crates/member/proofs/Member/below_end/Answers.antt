@@ -1,4 +1,3 @@
-use borrow.Author.Rules.{rules}
 use borrow.Author.Tests.{eq-eqb, ne_eqb, le-leb, lt-leb}
 use Rattle.member.specs.Search.{below_end}
 use Rattle.member.proofs.Member.below_end.Goals as goal

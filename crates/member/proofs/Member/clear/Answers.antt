@@ -1,13 +1,13 @@
 -- `clear` drops one entry after another. The invariant: what the member holds without those dropped so far.
 use mathlib.Core.Path.{◌≡◌, ◌∙◌}
-use Prim.Native.Nat.{◌≤◌, ◌-◌}
+use Prim.Native.Nat.{◌-◌}
 use borrow.Author.Rules.{rules}
 use native.Mathlib.Omega.{arith}
 use lib.ListN.{length, length-take}
-use Rattle.member.specs.Tile.{entries, holding}
+use Rattle.member.specs.Tile.{entries}
 use Rattle.member.specs.declared.Member.{Member}
 use Rattle.member.proofs.Rows.{length_of_map}
-use Rattle.member.proofs.Steps.{fewer, clear_none, clear_one, clear_done}
+use Rattle.member.proofs.Steps.{clear_none, clear_one, clear_done}
 use Rattle.member.proofs.Member.clear.Goals as goal
 
 pub loop-left-init : goal.loop-left-init

@@ -1,6 +1,5 @@
 -- `coalesce` is its steps one after another, which come to the definition.
 use mathlib.Core.Path.{sym, ◌∙◌}
-use borrow.Author.Rules.{rules}
 use borrow.Author.Tests.{le-ltb}
 use native.Mathlib.Omega.{arith}
 use Rattle.member.specs.Tile.{entries}
@@ -28,14 +27,11 @@ clear-self-requires c =
 
 pub returns-then-fits_coalesce : goal.returns-then-fits_coalesce
 returns-then-fits_coalesce c =
-    let above = c.before.before.before.before.before.before.before in
-    let past = above.before in
-    let fits = past.before.before in
-    let a = fits.before.before.before.before.args in
+    let a = c.args in
     coalesce_done a.self c.clear-self.result c.write_end-self.result c.write_end-self-then-fits_coalesce.result c.set_gap-self.result
-    c.set_gap.result a.p a.s a.gap fits.before.if1.false (sym fits.fits-coalesce.ensures ∙ past.before.if2.true)
-    c.past_end-then-fits_coalesce.result c.below_end.result past.past_end.result above.gap_below.result c.past_end-then-fits_coalesce.ensures
-    c.below_end.ensures past.past_end.ensures above.gap_below.ensures c.clear-self.ensures c.write_end-self.ensures
+    c.set_gap.result a.p a.s a.gap c.if-s-p.false (sym c.fits_coalesce.ensures ∙ c.if-fits_coalesce.true)
+    c.past_end-then-fits_coalesce.result c.below_end.result c.past_end.result c.gap_below-above.result c.past_end-then-fits_coalesce.ensures
+    c.below_end.ensures c.past_end.ensures c.gap_below-above.ensures c.clear-self.ensures c.write_end-self.ensures
     c.write_end-self-then-fits_coalesce.ensures c.set_gap-self.ensures c.set_gap.ensures
 
 pub returns : goal.returns

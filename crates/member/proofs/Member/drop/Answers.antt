@@ -1,13 +1,9 @@
 -- `drop` moves the rows above the place down by one. The invariant: up to place i the rows are those of the target, and from there on
 -- as they were.
 use mathlib.Core.Path.{◌≡◌, sym}
-use mathlib.Core.List.{◌++◌}
-use Prim.Native.Nat.{◌≤◌, ◌+◌, ◌-◌}
+use Prim.Native.Nat.{◌-◌}
 use borrow.Author.Rules.{rules}
 use native.Mathlib.Omega.{arith}
-use lib.ListN.{length, take, drop}
-use Rattle.member.specs.Tile.{none, entries, unused}
-use Rattle.member.proofs.Shift.{dropped}
 use Rattle.member.proofs.Changes.{drop_past, drop_start, drop-step, drop-done}
 use Rattle.member.proofs.Member.drop.Goals as goal
 

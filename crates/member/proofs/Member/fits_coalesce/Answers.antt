@@ -1,6 +1,5 @@
 -- `fits_coalesce` counts the entries that a coalescing leaves.
 use mathlib.Core.Path.{◌≡◌}
-use mathlib.Core.Logic.{⊎_elim}
 use borrow.Author.Rules.{rules}
 use native.Mathlib.Omega.{arith}
 use lib.ListN.{length}
@@ -9,6 +8,7 @@ use Rattle.member.specs.SearchLaws.{end_cut, below-le-length, past-le-length}
 use Rattle.member.proofs.Rows.{length_of_map, entries_le}
 use Rattle.member.proofs.Fits.{own_low, own_name, own-high, fits-order, fits-high, fits_sum}
 use Rattle.member.proofs.Member.fits_coalesce.Goals as goal
+use Rattle.member.proofs.Member.fits_coalesce.Goals.{then-p-ne0, else-p-ne0, then-s-lt-HIGH, else-s-lt-HIGH}
 
 pub returns-then-s-p : goal.returns-then-s-p
 returns-then-s-p c = fits-order c.args.self c.args.p c.args.s c.if-s-p.true
@@ -45,7 +45,7 @@ overflow_add-after-then-s-lt-HIGH c =
     let a = c.args in
     let below = below-le-length (end_cut a.p) (entries a.self) in
     let past = past-le-length (end_cut a.s) (entries a.self) in
-    ⊎_elim (λ w. omega arith) (λ w. omega arith) c.if-p-ne0.branch
+    elim c.if-p-ne0.branch [ then-p-ne0 w ↦ omega arith | else-p-ne0 w ↦ omega arith ]
 
 pub returns : goal.returns
 returns c =
@@ -53,8 +53,13 @@ returns c =
     let below = below-le-length (end_cut a.p) (entries a.self) in
     let past = past-le-length (end_cut a.s) (entries a.self) in
     fits_sum a.self a.p a.s c.if-s-p.false c.if-s-lt-HIGH.after
-    (⊎_elim
-    (λ v. ⊎_elim (λ w. omega (arith, own_name a.p (omega arith) (omega arith), own_name a.s (omega arith) (omega arith)))
-    (λ w. omega (arith, own_name a.p (omega arith) (omega arith), own-high a.s (omega arith))) c.if-s-lt-HIGH.branch)
-    (λ v. ⊎_elim (λ w. omega (arith, own_low a.p (omega arith), own_name a.s (omega arith) (omega arith)))
-    (λ w. omega (arith, own_low a.p (omega arith), own-high a.s (omega arith))) c.if-s-lt-HIGH.branch) c.if-p-ne0.branch)
+    (elim c.if-p-ne0.branch [
+      | then-p-ne0 v ↦ elim c.if-s-lt-HIGH.branch [
+        | then-s-lt-HIGH w ↦ omega (arith, own_name a.p (omega arith) (omega arith), own_name a.s (omega arith) (omega arith))
+        | else-s-lt-HIGH w ↦ omega (arith, own_name a.p (omega arith) (omega arith), own-high a.s (omega arith))
+      ]
+      | else-p-ne0 v ↦ elim c.if-s-lt-HIGH.branch [
+        | then-s-lt-HIGH w ↦ omega (arith, own_low a.p (omega arith), own_name a.s (omega arith) (omega arith))
+        | else-s-lt-HIGH w ↦ omega (arith, own_low a.p (omega arith), own-high a.s (omega arith))
+      ]
+    ])

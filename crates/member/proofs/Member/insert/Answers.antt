@@ -1,13 +1,10 @@
 -- `insert` moves the rows from the top down to the place up by one. The invariant: up to place i the rows are as they were, and above
 -- it those of the target.
 use mathlib.Core.Path.{◌≡◌, sym}
-use mathlib.Core.List.{◌++◌}
-use Prim.Native.Nat.{◌≤◌, ◌<◌, ◌+◌}
 use borrow.Author.Rules.{rules}
 use native.Mathlib.Omega.{arith}
-use lib.ListN.{length, take, drop}
-use Rattle.member.specs.Tile.{entries, unused}
-use Rattle.member.proofs.Shift.{inserted}
+use lib.ListN.{length}
+use Rattle.member.specs.Tile.{entries}
 use Rattle.member.proofs.Rows.{length_of_map}
 use Rattle.member.proofs.Changes.{insert_start, insert-step, insert_done}
 use Rattle.member.proofs.Member.insert.Goals as goal

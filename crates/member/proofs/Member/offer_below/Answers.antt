@@ -3,10 +3,8 @@ use borrow.Author.Rules.{rules}
 use native.Mathlib.Omega.{arith}
 use mathlib.Core.Path.{◌≡◌, ◌∙◌, sym}
 use mathlib.Core.Bool.{true, false}
-use Prim.Native.Nat.{◌≤◌}
-use lib.ListN.{length, take}
+use lib.ListN.{length}
 use Rattle.member.specs.Tile.{entries}
-use Rattle.member.specs.Rounds.{bare_offer, last_offer, offer_below_of}
 use Rattle.member.proofs.Rows.{length_of_map, entries_le}
 use Rattle.member.proofs.Seats.{seat_le}
 use Rattle.member.proofs.Offers.{below_from, last_step, last_end, bare_is, bare_not}

@@ -1,19 +1,13 @@
 -- `offer_below` goes down from the place of the name. The invariant: the answer is what the entries below place i offer.
-use borrow.Author.Rules.{rules}
-use native.Mathlib.Omega.{arith}
-use mathlib.Core.Path.{◌≡◌, ◌∙◌, sym}
-use mathlib.Core.Bool.{true, false}
+use mathlib.Core.Path.{◌≡◌}
 use Prim.Native.Nat.{◌≤◌}
 use lib.ListN.{length, take}
 use Rattle.member.specs.Tile.{entries}
 use Rattle.member.specs.Rounds.{bare_offer, last_offer, offer_below_of}
-use Rattle.member.proofs.Rows.{length_of_map, entries_le}
-use Rattle.member.proofs.Seats.{seat_le}
-use Rattle.member.proofs.Offers.{below_from, last_step, last_end, bare_is, bare_not}
 use Rattle.member.proofs.Member.offer_below.Given as goal
 
 abbrev pub invariant-loop-i : goal.invariant-loop-i
-invariant-loop-i l =     (length (entries l.self) ≤ 32) × (l.i ≤ length (entries l.self)) × (offer_below_of l.self l.name l.k l.v ≡ last_offer l.k l.v (bare_offer 0 l.k) (take l.i (entries l.self)))
+invariant-loop-i l = (length (entries l.self) ≤ 32) × (l.i ≤ length (entries l.self)) × (offer_below_of l.self l.name l.k l.v ≡ last_offer l.k l.v (bare_offer 0 l.k) (take l.i (entries l.self)))
 
 abbrev pub decreases-loop-i : goal.decreases-loop-i
 decreases-loop-i l = l.i

@@ -3,10 +3,6 @@ use borrow.Author.Rules.{rules}
 use native.Mathlib.Omega.{arith}
 use mathlib.Core.Path.{◌≡◌, ◌∙◌, sym}
 use mathlib.Core.Bool.{true, false}
-use Prim.Native.Nat.{◌-◌}
-use lib.ListN.{length, drop}
-use Rattle.member.specs.Tile.{unused}
-use Rattle.member.specs.Sound.{all_none}
 use Rattle.member.proofs.Rows.{length_of_map}
 use Rattle.member.proofs.Soundness.{none_from, none_step, none_end}
 use Rattle.member.proofs.Member.rest_is_none.Goals as goal

@@ -1,11 +1,6 @@
 -- `seat` finds where a name belongs. The invariant: what is left of the search, from place i on, adds i to the whole.
-use mathlib.Core.Path.{◌≡◌}
-use Prim.Native.Nat.{◌≤◌, ◌+◌, ◌-◌}
-use borrow.Author.Rules.{rules}
 use native.Mathlib.Omega.{arith}
-use lib.ListN.{length, drop}
 use Rattle.member.specs.Tile.{entries}
-use Rattle.member.specs.Search.{seat_in}
 use Rattle.member.proofs.Rows.{seat_here, seat_on, seat_end}
 use Rattle.member.proofs.Member.seat.Goals as goal
 

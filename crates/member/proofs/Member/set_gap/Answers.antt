@@ -1,6 +1,5 @@
 -- `set_gap` sets the lowest gap, or that of the entry in the place found.
 use mathlib.Core.Path.{◌≡◌, sym}
-use borrow.Author.Rules.{rules}
 use native.Mathlib.Omega.{arith}
 use lib.ListN.{length}
 use Rattle.member.specs.Tile.{entries}

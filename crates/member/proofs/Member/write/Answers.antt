@@ -1,8 +1,6 @@
 -- `write` gives the entry its version and value, or puts a row in with the version of the gap that it splits.
 use mathlib.Core.Path.{◌≡◌, sym, ◌∙◌}
-use mathlib.Core.Logic.{⊎_elim}
 use Prim.Native.Nat.{◌≤◌, ◌<◌, ◌+◌}
-use borrow.Author.Rules.{rules}
 use native.Mathlib.Omega.{arith}
 use lib.ListN.{length}
 use Rattle.member.specs.Tile.{entries}
@@ -11,6 +9,7 @@ use Rattle.member.specs.SearchLaws.{name_cut, below-le-length}
 use Rattle.member.proofs.Rows.{next-held_rows, next_other_rows}
 use Rattle.member.proofs.Writes.{write-held, write_new, write_full}
 use Rattle.member.proofs.Member.write.Goals as goal
+use Rattle.member.proofs.Member.write.Goals.{then-at-n+else-self-at, else-at-n}
 
 pub returns-then-self-at : goal.returns-then-self-at
 returns-then-self-at c =
@@ -39,9 +38,10 @@ returns-then-n-lt-SLOTS c =
     let n : length l ≡ c.used-n.result = sym c.used-n.ensures.0 in
     let s : i ≡ seat_in l a.name = c.seat-at.ensures in
     let t : i ≡ next_in l a.name =
-    ⊎_elim
-    (λ w. next_other_rows a.self a.name i s (λ h. w.1.left))
-    (λ w. next_other_rows a.self a.name i s (λ h e. omega arith)) c.if-at-n.branch in
+    elim c.if-at-n.branch [
+      | then-at-n+else-self-at w ↦ next_other_rows a.self a.name i s (λ h. w.if-self-at.false)
+      | else-at-n w ↦ next_other_rows a.self a.name i s (λ h e. omega arith)
+    ] in
     let h : i ≤ length l = omega (arith, below-le-length (name_cut a.name) l) in
     c.insert.ensures
     ∙ write_new a.self a.name a.version a.value i s t h c.gap_below-split.result c.gap_below-split.ensures (omega arith)
@@ -54,8 +54,9 @@ returns c =
     let n : length l ≡ c.used-n.result = sym c.used-n.ensures.0 in
     let s : i ≡ seat_in l a.name = c.seat-at.ensures in
     let t : i ≡ next_in l a.name =
-    ⊎_elim
-    (λ w. next_other_rows a.self a.name i s (λ h. w.1.left))
-    (λ w. next_other_rows a.self a.name i s (λ h e. omega arith)) c.if-at-n.branch in
+    elim c.if-at-n.branch [
+      | then-at-n+else-self-at w ↦ next_other_rows a.self a.name i s (λ h. w.if-self-at.false)
+      | else-at-n w ↦ next_other_rows a.self a.name i s (λ h e. omega arith)
+    ] in
     let h : i ≤ length l = omega (arith, below-le-length (name_cut a.name) l) in
     write_full a.self a.name a.version a.value i s t h (omega arith)

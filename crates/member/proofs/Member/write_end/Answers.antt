@@ -1,5 +1,4 @@
 -- `write_end` writes a name; LOW and HIGH it leaves alone.
-use borrow.Author.Rules.{rules}
 use borrow.Author.Tests.{lt-ltb, le-ltb}
 use native.Mathlib.Omega.{arith}
 use Rattle.member.specs.Limits.{high}
