@@ -16,8 +16,9 @@ use Rattle.suite.specs.Calls.{Marked, picked, its_reading, version_of, newest}
 use Rattle.suite.specs.declared.Suite.{Suite}
 use Rattle.ideal.specs.Votes.{In, Voting, Reads, Writes}
 use Rattle.ideal.specs.Best.{Best, best-same}
-use Rattle.ideal.specs.Invariant.{Inv, seen}
-use Rattle.ideal.specs.Lookup as theory
+use Rattle.ideal.specs.Invariant.{Inv}
+use Rattle.ideal.proofs.Seen.{seen}
+use Rattle.ideal.proofs.Lookup as theory
 use Rattle.ideal.specs.Forget.{present, value_at}
 use Rattle.history.specs.Directory.{Directory}
 use Rattle.history.specs.Directory as plain

@@ -31,8 +31,9 @@ use Rattle.ideal.specs.Votes.{In, Voting, Reads}
 use Rattle.ideal.specs.Best.{Best, best-same}
 use Rattle.ideal.specs.Invariant.{Inv}
 use Rattle.ideal.specs.Ends.{offers_unique}
-use Rattle.ideal.specs.Neighbours.{RoundOne, RoundTwo, Found, offers_end, below}
-use Rattle.ideal.specs.Mirror.{offers_above_unique, offers_upper_end, above}
+use Rattle.ideal.specs.Neighbours.{RoundOne, RoundTwo, Found}
+use Rattle.ideal.proofs.Neighbours.{offers_end, below}
+use Rattle.ideal.proofs.Mirror.{offers_above_unique, offers_upper_end, above}
 use Rattle.history.specs.Directory.{Directory}
 use Rattle.history.specs.Asked.{named}
 use Rattle.history.specs.NamedLaws.{all-each}

@@ -17,7 +17,7 @@ use Rattle.suite.specs.Kept.{tiles_with, length-changed}
 use Rattle.suite.specs.declared.Suite.{Suite}
 use Rattle.ideal.specs.Invariant.{Inv}
 use Rattle.ideal.specs.Region.{Patched, patched, patched_is, Written, Outside}
-use Rattle.ideal.specs.Calls.{enter}
+use Rattle.ideal.proofs.Calls.{enter}
 use Rattle.ideal.specs.Forget.{present, value_at, is_entry, entry_here, entry_elsewhere}
 use Rattle.ideal.specs.Forget as forget
 use Rattle.history.specs.Directory.{Directory}

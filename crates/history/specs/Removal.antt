@@ -20,7 +20,7 @@ use Rattle.ideal.specs.Best.{Best}
 use Rattle.ideal.specs.Invariant.{Inv}
 use Rattle.ideal.specs.Region.{Patched, patched, patched_is}
 use Rattle.ideal.specs.Remove.{joined, coalesced}
-use Rattle.ideal.specs.Calls.{delete}
+use Rattle.ideal.proofs.Calls.{delete}
 use Rattle.ideal.specs.Forget.{is_entry, present, value_at, before, after, removed-here, removed-elsewhere}
 use Rattle.ideal.specs.Forget as forget
 use Rattle.history.specs.Directory.{Directory}

@@ -1,9 +1,9 @@
 -- The invariant behind the directory: beside the members stands an ideal tile A, without limits, that got every
 -- accepted change.
 use Rattle.std.specs.Prelude.{ℕ, suc, ◌≤◌, ◌<◌, ◌≡◌, Bool, ◌↔◌, eqb}
-use Rattle.std.proofs.Common.{eqb-true, arith}
+use Rattle.std.proofs.Common.{arith}
 use Rattle.ideal.specs.Tiles.{version, IsGap, Tile, TileRules}
-use Rattle.ideal.specs.Votes.{In, Voting, Reads, Writes, shared}
+use Rattle.ideal.specs.Votes.{Voting, Writes}
 
 -- member i has A's version at the place z
 abbrev pub Current : (ℕ → Tile) → Tile → ℕ → ℕ → Type 0
@@ -24,13 +24,6 @@ pub record Inv (q : Voting) (hi : ℕ) (M : ℕ → Tile) (A : Tile) : Type 0 wh
   pub known : (z : ℕ) → z ≤ hi → Writes q (current M A z)
   -- who is current somewhere in a gap of A is so all over it
   pub through : (i z : ℕ) → i < q.members → z < hi → IsGap (A z) → IsGap (A (suc z)) → Current M A z i ↔ Current M A (suc z) i
-
--- some member of a read set shows what A shows
-pub seen : {q : Voting} {hi : ℕ} {M : ℕ → Tile} {A : Tile} → Inv q hi M A → (read : ℕ → Bool) → Reads q read → (z : ℕ) →
-    z ≤ hi → (i : ℕ) × (i < q.members) × In read i × (M i z ≡ A z)
-seen {q} {hi} {M} {A} v read r z l =
-    let s = shared q read (current M A z) r (v.known z l) in
-    (s.0, s.1, s.2, v.same s.0 z s.1 l (eqb-true (version (M s.0 z)) (version (A z)) s.3))
 
 -- a member that is no older than A at a place shows what A shows
 pub newest : {q : Voting} {hi : ℕ} {M : ℕ → Tile} {A : Tile} → Inv q hi M A → (i z : ℕ) → i < q.members → z ≤ hi →

@@ -4,15 +4,10 @@ pub mod Tiles
 pub mod Votes
 pub mod Best
 pub mod Invariant
-pub mod Lookup
 pub mod Change
 pub mod Region
-pub mod RegionKeeps
-pub mod Insert
 pub mod Ends
 pub mod Remove
 pub mod Neighbours
-pub mod Mirror
-pub mod Calls
 pub mod Start
 pub mod Forget

@@ -4,7 +4,8 @@ use Rattle.std.proofs.Common.{sym, ap, subst, ◌∙◌, inl, inr, arith}
 use Rattle.ideal.specs.Tiles.{version, IsEntry, IsGap, Tile, TileRules, rules_ext, not_both}
 use Rattle.ideal.specs.Votes.{In, Voting, Writes}
 use Rattle.ideal.specs.Invariant.{Inv}
-use Rattle.ideal.specs.Change.{Raised, Moved, Shown, MovedAlike, ShownAlike, Change, change}
+use Rattle.ideal.specs.Change.{Raised, Moved, Shown, MovedAlike, ShownAlike, Change}
+use Rattle.ideal.proofs.Change.{change}
 use Rattle.ideal.specs.Region.{Inside, Outside, side, Patched, PatchRules, patch-rules, Written, Allowed}
 
 module _ {n hi lo up : ℕ} {N : Tile} {w : ℕ → Bool} {M : ℕ → Tile} {A : Tile} {M' : ℕ → Tile} {A' : Tile}

@@ -9,7 +9,8 @@ use Rattle.ideal.specs.Votes.{In, Voting, Reads}
 use Rattle.ideal.specs.Best.{best-same}
 use Rattle.ideal.specs.Invariant.{Inv, Current}
 use Rattle.ideal.specs.Ends.{LowerEnd, UpperEnd, Offers, OffersAbove, lower_unique, offers_unique}
-use Rattle.ideal.specs.Neighbours.{RoundOne, RoundTwo, Found, offers_end, below}
+use Rattle.ideal.specs.Neighbours.{RoundOne, RoundTwo, Found}
+use Rattle.ideal.proofs.Neighbours.{offers_end, below}
 
 abbrev pub rev : ℕ → Tile → Tile
 rev hi f z = f (hi - z)

@@ -7,12 +7,13 @@ use Rattle.ideal.specs.Tiles.{version, IsEntry, Tile}
 use Rattle.ideal.specs.Votes.{In, Voting, Reads, Writes}
 use Rattle.ideal.specs.Best.{Best}
 use Rattle.ideal.specs.Invariant.{Inv}
-use Rattle.ideal.specs.Lookup.{lookup}
+use Rattle.ideal.proofs.Lookup.{lookup}
 use Rattle.ideal.specs.Region.{Written, patched, patched_is}
-use Rattle.ideal.specs.Insert.{written_entry}
+use Rattle.ideal.proofs.Insert.{written_entry}
 use Rattle.ideal.specs.Ends.{LowerEnd, UpperEnd}
 use Rattle.ideal.specs.Neighbours.{Found}
-use Rattle.ideal.specs.Remove.{joined, removed}
+use Rattle.ideal.specs.Remove.{joined}
+use Rattle.ideal.proofs.Remove.{removed}
 
 module _ {q : Voting} {hi : ℕ} {M : ℕ → Tile} {A : Tile} (inv : Inv q hi M A) (read : ℕ → Bool) (r : Reads q read)
     {w : ℕ → Bool} (enough : Writes q w) {M' : ℕ → Tile} where

@@ -7,7 +7,7 @@ use Rattle.ideal.specs.Tiles.{version, IsEntry, Tile}
 use Rattle.ideal.specs.Votes.{Voting, Writes}
 use Rattle.ideal.specs.Invariant.{Inv}
 use Rattle.ideal.specs.Region.{Patched, PatchRules, Written, Allowed}
-use Rattle.ideal.specs.RegionKeeps.{region}
+use Rattle.ideal.proofs.RegionKeeps.{region}
 
 -- An entry newer than what A shows, at the place of the end e of a name; 'version = lookup's version + 1' is one.
 pub written_entry : {q : Voting} {hi : ℕ} {M : ℕ → Tile} {A : Tile} {w : ℕ → Bool} {M' : ℕ → Tile} {A' : Tile} → Inv q hi M A →
