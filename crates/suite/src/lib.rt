@@ -2,6 +2,7 @@
 //
 // A suite uses a member only through what it promises: it never looks into rows.
 #![tactic(auto)]
+
 mod ask;
 mod ballot;
 mod calls;

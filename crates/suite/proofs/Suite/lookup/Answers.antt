@@ -1,0 +1,17 @@
+-- `lookup` checks the suite first.
+use mathlib.Core.Path.{sym, ap, ◌∙◌}
+use Rattle.suite.specs.Calls.{lookup, Result}
+use Rattle.suite.specs.Agree.{call_sound, call_unsound}
+use borrow.Author.Rules.{rules}
+use Rattle.suite.proofs.Suite.lookup.Goals as goal
+
+pub returns-then-is_sound : goal.returns-then-is_sound
+returns-then-is_sound c =
+    let a = c.args in
+    c.lookup_unchecked.ensures
+    ∙ sym (ap (λ (t : Result). t.outcome) (call_sound a.self (lookup a.set a.name) (sym c.is_sound.ensures ∙ c.if-is_sound.true)))
+
+pub returns : goal.returns
+returns c =
+    let a = c.args in
+    sym (ap (λ (t : Result). t.outcome) (call_unsound a.self (lookup a.set a.name) (sym c.is_sound.ensures ∙ c.if-is_sound.false)))

@@ -1,0 +1,17 @@
+-- `votes_fit` stops at the first vote over 15. The invariant: what is left decides as the whole does.
+use mathlib.Core.Path.{◌≡◌, refl, sym, ◌∙◌}
+use Prim.Native.Nat.{◌≤◌, ◌-◌}
+use native.Mathlib.Omega.{arith}
+use borrow.Author.Rules.{rules}
+use borrow.Author.Tests.{lt-leb, le-leb}
+use lib.ListN.{length, drop, get_or}
+use Rattle.suite.specs.Sets.{all}
+use Rattle.suite.specs.Suite.{small_vote, largest_vote}
+use Rattle.suite.proofs.All.{all-on, all-stop, all_past}
+use Rattle.suite.proofs.create.votes_fit.Given as goal
+
+abbrev pub invariant-loop-i : goal.invariant-loop-i
+invariant-loop-i l = (l.i ≤ length l.votes) × (all small_vote l.votes ≡ all small_vote (drop l.i l.votes))
+
+abbrev pub decreases-loop-i : goal.decreases-loop-i
+decreases-loop-i l = length l.votes - l.i

@@ -1,0 +1,21 @@
+-- `best_row` keeps the best row so far. The invariant: going on with it over the rows left comes to the best of all.
+use mathlib.Core.Bool.{true, false}
+use mathlib.Core.List.{[]}
+use mathlib.Core.Path.{◌≡◌, refl, sym, ◌∙◌}
+use Prim.Native.Nat.{◌≤◌, ◌<◌, ◌-◌}
+use native.Mathlib.Omega.{arith}
+use borrow.Author.Rules.{rules}
+use lib.ListN.{length, drop, get_or}
+use Rattle.suite.specs.Sets.{chosen}
+use Rattle.suite.specs.Best.{best}
+use Rattle.suite.specs.Rows.{beats_at, no_row}
+use Rattle.suite.proofs.SetFolds.{best_on, best-weighed, best-first, best-passed, best_past}
+use Rattle.member.proofs.Rows.{length_of_map}
+use Rattle.suite.proofs.table.best_row.Given as goal
+
+abbrev pub invariant-loop-i : goal.invariant-loop-i
+invariant-loop-i l = (l.i ≤ 8)
+    × (best (beats_at l.column l.then) no_row (chosen l.table l.set) ≡ best_on (beats_at l.column l.then) l.any l.got (chosen (drop l.i l.table) l.left))
+
+abbrev pub decreases-loop-i : goal.decreases-loop-i
+decreases-loop-i l = 8 - l.i
