@@ -1,5 +1,4 @@
 -- `fits_write` looks for the name only where no place is free.
-use borrow.Author.Rules.{rules}
 use native.Mathlib.Omega.{arith}
 use mathlib.Core.Path.{◌∙◌, ap, sym}
 use Prim.Native.Nat.{ℕ}

@@ -1,5 +1,4 @@
 -- `reading_at` goes by the place that the search gave.
-use borrow.Author.Rules.{rules}
 use native.Mathlib.Omega.{arith}
 use borrow.Author.Tests.{ne_eqb}
 use mathlib.Core.Path.{◌≡◌, ◌∙◌, sym}

@@ -1,5 +1,4 @@
 -- `set_entry` stores a row where there is its place.
-use borrow.Author.Rules.{rules}
 use native.Mathlib.Omega.{arith}
 use mathlib.Core.Path.{sym}
 use Prim.Native.Nat.{◌≤◌}

@@ -1,5 +1,4 @@
 -- `set_size` stores a count, at most that of all places.
-use borrow.Author.Rules.{rules}
 use native.Mathlib.Nat.{min-eq_left, min-eq_right}
 use native.Mathlib.Omega.{arith}
 use mathlib.Core.Path.{sym, ap, ◌∙◌}

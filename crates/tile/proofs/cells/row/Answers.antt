@@ -1,5 +1,4 @@
 -- `row` reads the four cells of its place.
-use borrow.Author.Rules.{rules}
 use Rattle.tile.proofs.CellsRead.{row_cells}
 use Rattle.tile.proofs.cells.row.Goals as goal
 

@@ -1,5 +1,4 @@
 -- `used` counts the entries.
-use borrow.Author.Rules.{rules}
 use Rattle.tile.proofs.CellsRead.{used-some, used_all}
 use Rattle.tile.proofs.cells.used.Goals as goal
 

@@ -2,14 +2,9 @@
 -- as they were.
 use mathlib.Core.Path.{◌≡◌}
 use lib.ListN.{length}
-use Prim.Native.Nat.{◌≤◌, ◌-◌}
-use borrow.Author.Rules.{rules}
 use native.Mathlib.Omega.{arith}
-use Rattle.member.specs.Tile.{none}
 use Rattle.tile.specs.Lent.{tile_in}
 use Rattle.tile.proofs.Stores.{tile_rows}
-use Rattle.tile.proofs.StoreSteps.{up_to}
-use Rattle.tile.proofs.ChangeRows.{freed}
 use Rattle.tile.proofs.ChangeSteps.{free-first, free_one, free-last}
 use Rattle.tile.proofs.change.free.Goals as goal
 

@@ -1,7 +1,6 @@
 -- `insert` is the entries from the place on moved up by one, and the row put there.
 use mathlib.Core.Path.{◌≡◌}
 use lib.ListN.{length}
-use borrow.Author.Rules.{rules}
 use native.Mathlib.Omega.{arith}
 use Rattle.tile.specs.Lent.{tile_in}
 use Rattle.tile.proofs.Stores.{tile_rows}

@@ -2,14 +2,11 @@
 -- as they were.
 use mathlib.Core.Path.{◌≡◌, refl}
 use lib.ListN.{length}
-use Prim.Native.Nat.{◌≤◌, ◌-◌}
-use borrow.Author.Rules.{rules}
+use Prim.Native.Nat.{◌-◌}
 use native.Mathlib.Omega.{arith}
-use Rattle.member.specs.Tile.{entries}
 use Rattle.tile.specs.Lent.{tile_in}
 use Rattle.tile.proofs.Stores.{tile_rows}
-use Rattle.tile.proofs.StoreSteps.{up_to}
-use Rattle.tile.proofs.ChangeSteps.{moved_of, lower-first, lower-one, lower_last}
+use Rattle.tile.proofs.ChangeSteps.{lower-first, lower-one, lower_last}
 use Rattle.tile.proofs.change.lower.Goals as goal
 
 pub loop-i-init : goal.loop-i-init

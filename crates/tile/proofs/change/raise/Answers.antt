@@ -2,14 +2,10 @@
 -- and from there on those of the target.
 use mathlib.Core.Path.{◌≡◌}
 use lib.ListN.{length}
-use Prim.Native.Nat.{◌≤◌, ◌+◌, ◌-◌}
-use borrow.Author.Rules.{rules}
 use native.Mathlib.Omega.{arith}
-use Rattle.member.specs.Tile.{entries}
 use Rattle.tile.specs.Lent.{tile_in}
 use Rattle.tile.proofs.Stores.{tile_rows}
-use Rattle.tile.proofs.StoreSteps.{down_to}
-use Rattle.tile.proofs.ChangeSteps.{moved_of, raise-first, raise-one, raise-last}
+use Rattle.tile.proofs.ChangeSteps.{raise-first, raise-one, raise-last}
 use Rattle.tile.proofs.change.raise.Goals as goal
 
 pub loop-i-init : goal.loop-i-init

@@ -3,17 +3,14 @@
 use mathlib.Core.Path.{◌≡◌}
 use lib.ListN.{length}
 use Prim.Native.Nat.{◌≤◌, ◌+◌, ◌-◌}
-use borrow.Author.Rules.{rules}
-use native.Mathlib.Omega.{arith}
 use Rattle.member.specs.Tile.{entries}
 use Rattle.tile.specs.Lent.{tile_in}
-use Rattle.tile.proofs.Stores.{tile_rows}
 use Rattle.tile.proofs.StoreSteps.{down_to}
-use Rattle.tile.proofs.ChangeSteps.{moved_of, raise-first, raise-one, raise-last}
+use Rattle.tile.proofs.ChangeSteps.{moved_of}
 use Rattle.tile.proofs.change.raise.Given as goal
 
 abbrev pub invariant-loop-i : goal.invariant-loop-i
-invariant-loop-i l =     (l.n ≡ length (entries (tile_in l.initial.tile))) × (l.at ≤ l.to) × (l.to + (l.n - l.at) ≤ 32) × (l.at ≤ l.i) × (l.i ≤ l.n)
+invariant-loop-i l = (l.n ≡ length (entries (tile_in l.initial.tile))) × (l.at ≤ l.to) × (l.to + (l.n - l.at) ≤ 32) × (l.at ≤ l.i) × (l.i ≤ l.n)
     × (tile_in l.tile ≡ down_to (tile_in l.initial.tile) (moved_of (tile_in l.initial.tile) l.at l.to) (l.i + (l.to - l.at)))
 
 abbrev pub decreases-loop-i : goal.decreases-loop-i

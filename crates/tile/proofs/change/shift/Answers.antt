@@ -1,7 +1,6 @@
 -- `shift` moves up or down; where nothing moves the count alone is stored.
 use mathlib.Core.Path.{◌≡◌}
 use lib.ListN.{length}
-use borrow.Author.Rules.{rules}
 use native.Mathlib.Omega.{arith}
 use Rattle.tile.specs.Lent.{tile_in}
 use Rattle.tile.proofs.Stores.{tile_rows}

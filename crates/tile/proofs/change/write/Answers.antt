@@ -1,6 +1,5 @@
 -- `write` gives the entry its version and value, or puts a row in with the version of the gap that it splits.
 use mathlib.Core.Path.{◌≡◌}
-use borrow.Author.Rules.{rules}
 use native.Mathlib.Omega.{arith}
 use Rattle.member.specs.Tile.{entries}
 use Rattle.member.specs.Search.{next_in}

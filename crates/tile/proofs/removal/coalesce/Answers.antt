@@ -1,5 +1,4 @@
 -- `coalesce` moves the rows past s to their place and puts those of p and s in front of them.
-use borrow.Author.Rules.{rules}
 use borrow.Author.Tests.{le-ltb}
 use native.Mathlib.Omega.{arith}
 use Rattle.member.specs.Tile.{entries}

@@ -1,5 +1,4 @@
 -- `fits_coalesce` counts the entries that a coalescing leaves.
-use borrow.Author.Rules.{rules}
 use native.Mathlib.Omega.{arith}
 use Rattle.member.specs.Tile.{entries}
 use Rattle.member.specs.SearchLaws.{end_cut, below-le-length, past-le-length}

@@ -1,5 +1,4 @@
 -- `put_end` stores the lowest gap for LOW, a row for a name and nothing for HIGH.
-use borrow.Author.Rules.{rules}
 use native.Mathlib.Omega.{arith}
 use Rattle.member.proofs.Fits.{own_name}
 use Rattle.tile.specs.Lent.{tile_in}

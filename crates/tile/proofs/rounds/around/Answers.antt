@@ -1,5 +1,4 @@
 -- `around` is the reading with the gaps below the place of the name and below the place next above it.
-use borrow.Author.Rules.{rules}
 use native.Mathlib.Omega.{arith}
 use mathlib.Core.Path.{◌≡◌, ◌∙◌, ap}
 use Prim.Native.Nat.{ℕ}

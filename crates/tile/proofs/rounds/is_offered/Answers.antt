@@ -1,5 +1,4 @@
 -- `is_offered` tests the end, and then the version.
-use borrow.Author.Rules.{rules}
 use borrow.Author.Tests.{eq-eqb, ne_eqb}
 use mathlib.Core.Path.{◌∙◌, sym}
 use Rattle.member.specs.Search.{end_of}

@@ -1,5 +1,4 @@
 -- `offer` gives the entry by its end.
-use borrow.Author.Rules.{rules}
 use mathlib.Core.Path.{ap}
 use Prim.Native.Nat.{ℕ}
 use Rattle.member.specs.declared.Offer.TheVariants.{Is}

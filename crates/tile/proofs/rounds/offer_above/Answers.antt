@@ -1,13 +1,8 @@
 -- `offer_above` goes up from the place next above the name. The invariant: the answer is what the entries from place i on offer.
-use borrow.Author.Rules.{rules}
 use native.Mathlib.Omega.{arith}
 use mathlib.Core.Path.{◌≡◌, ◌∙◌, sym}
 use mathlib.Core.Bool.{true, false}
-use Prim.Native.Nat.{◌≤◌, ◌-◌}
-use lib.ListN.{length, drop}
-use Rattle.member.specs.Limits.{high}
 use Rattle.member.specs.Tile.{entries}
-use Rattle.member.specs.Rounds.{bare_offer, first_offer, offer_above_of}
 use Rattle.member.proofs.Seats.{next_le}
 use Rattle.member.proofs.Offers.{above_from, first_end}
 use Rattle.tile.specs.Lent.{tile_in}

@@ -1,12 +1,8 @@
 -- `offer_below` goes down from the place of the name. The invariant: the answer is what the entries below place i offer.
-use borrow.Author.Rules.{rules}
 use native.Mathlib.Omega.{arith}
 use mathlib.Core.Path.{◌≡◌, ◌∙◌, sym}
 use mathlib.Core.Bool.{true, false}
-use Prim.Native.Nat.{◌≤◌}
-use lib.ListN.{length, take}
 use Rattle.member.specs.Tile.{entries}
-use Rattle.member.specs.Rounds.{bare_offer, last_offer, offer_below_of}
 use Rattle.member.proofs.Seats.{seat_le}
 use Rattle.member.proofs.Offers.{below_from, last_end}
 use Rattle.tile.specs.Lent.{tile_in}

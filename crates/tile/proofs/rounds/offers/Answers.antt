@@ -1,5 +1,4 @@
 -- `offers` asks on both sides of the place that one search gave.
-use borrow.Author.Rules.{rules}
 use Rattle.tile.proofs.rounds.offers.Goals as goal
 
 pub returns : goal.returns

@@ -1,5 +1,4 @@
 -- `entry` gives the row in its place, where an entry stands there.
-use borrow.Author.Rules.{rules}
 use native.Mathlib.Omega.{arith}
 use mathlib.Core.Path.{sym, ◌∙◌}
 use Prim.Native.Nat.{◌≤◌}

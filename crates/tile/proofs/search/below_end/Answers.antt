@@ -1,5 +1,4 @@
 -- `below_end` searches for the name of the end.
-use borrow.Author.Rules.{rules}
 use borrow.Author.Tests.{eq-eqb, ne_eqb, le-leb, lt-leb}
 use Rattle.member.specs.Search.{below_end}
 use Rattle.tile.proofs.search.below_end.Goals as goal

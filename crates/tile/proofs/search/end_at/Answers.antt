@@ -1,5 +1,4 @@
 -- `end_at` gives the end of the entry in the place, or HIGH past the last.
-use borrow.Author.Rules.{rules}
 use native.Mathlib.Omega.{arith}
 use mathlib.Core.Path.{ap, ◌∙◌}
 use Rattle.member.specs.Tile.{entries}

@@ -1,5 +1,4 @@
 -- `end_below` gives the end of the entry one place below.
-use borrow.Author.Rules.{rules}
 use native.Mathlib.Omega.{arith}
 use mathlib.Core.Path.{ap, ◌∙◌}
 use Rattle.member.specs.Search.{end_of}

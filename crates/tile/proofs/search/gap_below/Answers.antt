@@ -1,5 +1,4 @@
 -- `gap_below_lem` reads the gap above the entry one place below.
-use borrow.Author.Rules.{rules}
 use native.Mathlib.Omega.{arith}
 use mathlib.Core.Path.{ap, ◌∙◌}
 use Rattle.member.specs.declared.Row.{Row}

@@ -1,5 +1,4 @@
 -- `next` looks at the entry in the place that the search gave.
-use borrow.Author.Rules.{rules}
 use native.Mathlib.Omega.{arith}
 use mathlib.Core.Path.{sym, ◌∙◌}
 use Rattle.member.proofs.Rows.{next-held_rows, next_other_rows}

@@ -1,5 +1,4 @@
 -- `past_end` searches for the name of the end, and goes past it.
-use borrow.Author.Rules.{rules}
 use borrow.Author.Tests.{eq-eqb, ne_eqb, le-leb, lt-leb}
 use Rattle.member.specs.Search.{past_end}
 use Rattle.tile.proofs.search.past_end.Goals as goal

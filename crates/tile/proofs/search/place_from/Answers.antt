@@ -1,10 +1,8 @@
 -- `place_from` goes down through a half. The invariant: the places from i on say `at`.
 use mathlib.Core.Path.{◌≡◌}
-use Prim.Native.Nat.{◌≤◌, ◌+◌, ◌-◌}
+use Prim.Native.Nat.{◌+◌, ◌-◌}
 use native.Mathlib.Omega.{arith}
-use lib.ListN.{length, drop}
 use Rattle.member.specs.Tile.{entries}
-use Rattle.member.specs.Search.{seat_in}
 use Rattle.member.proofs.Rows.{seat_end}
 use Rattle.tile.specs.Lent.{tile_in}
 use Rattle.tile.specs.Cells.{half_from}

@@ -1,6 +1,5 @@
 -- `seat` is the place among those that are used.
 use mathlib.Core.Path.{◌∙◌}
-use borrow.Author.Rules.{rules}
 use native.Mathlib.Omega.{arith}
 use Rattle.tile.specs.Lent.{tile_in}
 use Rattle.tile.proofs.SearchHalves.{seat_used, seat_unused}

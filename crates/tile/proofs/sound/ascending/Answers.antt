@@ -1,12 +1,8 @@
 -- `ascending` goes up through the entries. The invariant: the answer is that of the entries from place i on, which start at `from`.
-use borrow.Author.Rules.{rules}
 use native.Mathlib.Omega.{arith}
 use mathlib.Core.Path.{◌≡◌, ◌∙◌, sym, refl}
 use mathlib.Core.Bool.{true, false}
-use Prim.Native.Nat.{◌≤◌, ◌-◌}
-use lib.ListN.{length, drop}
 use Rattle.member.specs.Tile.{entries}
-use Rattle.member.specs.Sound.{ascends}
 use Rattle.member.proofs.Soundness.{ascends_end, in_range_name}
 use Rattle.tile.specs.Lent.{tile_in}
 use Rattle.tile.proofs.SoundSteps.{low-here, ascends-here}

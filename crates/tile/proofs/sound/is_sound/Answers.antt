@@ -1,5 +1,4 @@
 -- `is_sound` tests one rule after another.
-use borrow.Author.Rules.{rules}
 use native.Mathlib.Omega.{arith}
 use borrow.Author.Tests.{le-leb, lt-leb}
 use mathlib.Core.Path.{◌≡◌, ◌∙◌, sym}

@@ -1,12 +1,7 @@
 -- `rest_is_none` goes up through the unused places. The invariant: the answer is that of the places from i on.
-use borrow.Author.Rules.{rules}
 use native.Mathlib.Omega.{arith}
 use mathlib.Core.Path.{◌≡◌, ◌∙◌, sym}
 use mathlib.Core.Bool.{true, false}
-use Prim.Native.Nat.{◌-◌}
-use lib.ListN.{length, drop}
-use Rattle.member.specs.Tile.{unused}
-use Rattle.member.specs.Sound.{all_none}
 use Rattle.member.proofs.Soundness.{none_from, none_end}
 use Rattle.tile.specs.Lent.{tile_in}
 use Rattle.tile.proofs.Stores.{tile_rows}
