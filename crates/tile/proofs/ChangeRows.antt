@@ -72,9 +72,9 @@ module _ {A : Type 0} (d : A) where
     unfolding rest
     moved-below = take_at (take j r) (drop i l ++ rest) j first-length
 
-    pub moved_at : (n : ℕ) → i ≤ n → n < length l → get_or (moved r l u i j) (j + (n - i)) d ≡ get_or r n d
+    pub moved_at_lem : (n : ℕ) → i ≤ n → n < length l → get_or (moved r l u i j) (j + (n - i)) d ≡ get_or r n d
     unfolding rest
-    moved_at n p q =
+    moved_at_lem n p q =
         let f : length (take j r) + (n - i) ≡ j + (n - i) = rw first-length in
         let g : i + (n - i) ≡ n = omega arith in
         let b : n - i < length (drop i l) = rw (length-drop i l) (omega arith) in

@@ -13,7 +13,7 @@ use Rattle.member.proofs.Shift.{over-above, over_below}
 use Rattle.member.proofs.Changes.{member_path, places}
 use Rattle.tile.specs.Cells.{with_row, with_count, freed_at, moved_at}
 use Rattle.tile.proofs.StoreSteps.{rows_path, up_to, down_to, up_one, down_one}
-use Rattle.tile.proofs.ChangeRows.{freed, length-freed, freed-first, freed-at, freed-last, moved, length_moved, moved_at, rise-first, rise-last, fall-first, fall-last, moved_same, put-between}
+use Rattle.tile.proofs.ChangeRows.{freed, length-freed, freed-first, freed-at, freed-last, moved, length_moved, moved_at_lem, rise-first, rise-last, fall-first, fall-last, moved_same, put-between}
 
 -- Places freed.
 module _ (m : Member) (i j : ℕ) (h : i ≤ j) (k : j ≤ length m.rows) where
@@ -38,7 +38,7 @@ module _ (m : Member) (i j : ℕ) (h : i ≤ length (entries m)) (k : j + (lengt
   moved_length = length_moved none m.rows (entries m) (unused m) (places m) i j h k
 
   entry-moved : (x y : ℕ) → i ≤ x → x < length (entries m) → j + (x - i) ≡ y → get_or m.rows x none ≡ get_or (moved_of m i j) y none
-  entry-moved x y a b q = sym (rw q at (moved_at none m.rows (entries m) (unused m) (places m) i j h k x a b))
+  entry-moved x y a b q = sym (rw q at (moved_at_lem none m.rows (entries m) (unused m) (places m) i j h k x a b))
 
   -- up, from the last one down
   module _ (z : i ≤ j) where

@@ -4,6 +4,7 @@
 // Cell 0 is the count of entries, cell 1 the version of the gap above LOW; then 32 places of four cells: name, version, value,
 // version of the gap above.
 #![tactic(auto)]
+
 mod ask;
 mod build;
 mod cells;
