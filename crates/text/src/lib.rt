@@ -1,5 +1,6 @@
 // One command line in, and one answer line out, as bytes. Nothing here knows what a suite is.
 #![tactic(auto)]
+
 mod grammar;
 mod scan;
 mod write;

@@ -1,6 +1,5 @@
 -- `text::ballots`: the arguments of `suite`, where that is the line's word.
 use mathlib.Core.Path.{sym, ◌∙◌, ap}
-use borrow.Author.Rules.{rules}
 use native.Mathlib.Omega.{arith}
 use lib.Seq.{length-take-le}
 use Rattle.text.specs.Words.{ascii}

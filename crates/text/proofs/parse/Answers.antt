@@ -1,6 +1,5 @@
 -- `text::parse`: the command of the word that the line begins with.
 use mathlib.Core.Path.{sym, ◌∙◌, ap}
-use borrow.Author.Rules.{rules}
 use Rattle.text.specs.declared.Parsed.{Parsed}
 use Rattle.text.proofs.Commands.{by_kind}
 use Rattle.text.proofs.parse.Goals as goal

@@ -1,5 +1,4 @@
 -- `text::print`: where the text fits it is written in front of its end.
-use borrow.Author.Rules.{rules}
 use native.Mathlib.Omega.{arith}
 use Rattle.text.proofs.Printing.{no_room, fits}
 use Rattle.text.proofs.print.Goals as goal

@@ -1,6 +1,5 @@
 -- `text::grammar::changing`: two sets, a name, a value where the command has one, and nothing more.
 use mathlib.Core.Path.{sym, ◌∙◌, ap}
-use borrow.Author.Rules.{rules}
 use native.Mathlib.Omega.{arith}
 use Rattle.text.specs.Line.{alone, not_understood}
 use Rattle.text.specs.Kinds.{change_then, change_for}

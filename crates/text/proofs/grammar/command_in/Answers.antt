@@ -1,6 +1,5 @@
 -- `text::grammar::command_in`: by the kind that the word says.
 use mathlib.Core.Path.{sym, ◌∙◌, ap}
-use borrow.Author.Rules.{rules}
 use lib.Seq.{length-take-le}
 use Rattle.text.specs.Line.{alone, not_understood}
 use Rattle.text.specs.Kinds.{command_for}

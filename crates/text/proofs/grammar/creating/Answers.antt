@@ -1,6 +1,5 @@
 -- `text::grammar::creating`: two numbers, and the votes.
 use mathlib.Core.Path.{sym, ◌∙◌}
-use borrow.Author.Rules.{rules}
 use native.Mathlib.Omega.{arith}
 use Rattle.text.specs.Line.{creating, not_understood}
 use Rattle.text.proofs.Arguments.{number_step, number-goes, number-stops}

@@ -1,6 +1,5 @@
 -- `text::grammar::kind_of`: the words of the commands are tried one after another.
 use mathlib.Core.Path.{sym, ◌∙◌}
-use borrow.Author.Rules.{rules}
 use Rattle.text.specs.Words.{ascii}
 use Rattle.text.proofs.Commands.{is-look, is-near, is-insert, is-update, is-remove, is-suite, is-other}
 use Rattle.text.proofs.grammar.kind_of.Goals as goal

@@ -1,6 +1,5 @@
 -- `text::grammar::reading`: a set, a name, and nothing more.
 use mathlib.Core.Path.{sym, ◌∙◌, ap}
-use borrow.Author.Rules.{rules}
 use native.Mathlib.Omega.{arith}
 use Rattle.text.specs.Line.{reading, alone, not_understood}
 use Rattle.text.specs.declared.Parsed.{Parsed}

@@ -1,17 +1,13 @@
 -- `text::grammar::voting`: the words ahead, with the votes so far, give what all the words give.
-use Prim.Native.Nat.{◌+◌, ◌-◌, ◌≤◌}
 use mathlib.Core.Path.{◌≡◌, refl, sym, ◌∙◌, ap}
-use mathlib.Core.Logic.{⊎_elim}
-use borrow.Author.Rules.{rules}
 use native.Mathlib.Omega.{arith}
 use lib.ListN.{length, set, length-set}
 use lib.Seq.{set_out}
-use Rattle.text.specs.Line.{voting, padded, not_understood}
-use Rattle.text.specs.Scan.{words_from}
+use Rattle.text.specs.Line.{padded, not_understood}
 use Rattle.text.proofs.Arguments.{number_step, number-stops}
-use Rattle.text.proofs.Votes.{collected, votes_begin, votes-go, votes_stop, votes-end}
+use Rattle.text.proofs.Votes.{votes_begin, votes-go, votes_stop, votes-end}
 use Rattle.text.proofs.grammar.voting.Goals as goal
-use Rattle.text.proofs.grammar.voting.Goals.{Joined-count-lt-VOTES}
+use Rattle.text.proofs.grammar.voting.Goals.{Joined-count-lt-VOTES, then-count-lt-VOTES, else-count-lt-VOTES}
 
 pub loop-next-init : goal.loop-next-init
 unfolding padded
@@ -43,7 +39,10 @@ loop-next-smaller c = omega (arith, (number_step _ _ c.number_at.ensures c.in-Is
 stored : (c : Joined-count-lt-VOTES)
     → c.if-count-lt-VOTES.votes ≡ set c.loop-next.votes c.loop-next.count c.in-Is.value
 stored c =
-    ⊎_elim (λ w. w.1) (λ w. w.1 ∙ sym (set_out _ _ _ (rw c.loop-next.invariant.1 w.0.left))) c.if-count-lt-VOTES.branch
+    elim c.if-count-lt-VOTES.branch [
+      | then-count-lt-VOTES w ↦ w.votes-is
+      | else-count-lt-VOTES w ↦ w.votes-is ∙ sym (set_out _ _ _ (rw c.loop-next.invariant.1 w.if-count-lt-VOTES.false))
+    ]
 
 pub loop-next-preserved : goal.loop-next-preserved
 loop-next-preserved c =

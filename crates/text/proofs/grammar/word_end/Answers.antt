@@ -1,5 +1,4 @@
 -- `text::grammar::word_end`: the letters that the line begins with are its first word, or the line is no command.
-use borrow.Author.Rules.{rules}
 use native.Mathlib.Omega.{arith}
 use Rattle.text.specs.Line.{longest_line}
 use Rattle.text.proofs.Letters.{too_long, no_word, odd-word, some_word}
@@ -8,7 +7,7 @@ use Rattle.text.proofs.grammar.word_end.Goals as goal
 
 pub returns-then-line-gt-LONGEST : goal.returns-then-line-gt-LONGEST
 unfolding longest_line
-returns-then-line-gt-LONGEST c = not_worded _ (too_long _ c.if-line-gt-LONGEST.true)
+returns-then-line-gt-LONGEST c = not_worded _ (too_long _ (omega arith))
 
 pub returns-then-line-end : goal.returns-then-line-end
 unfolding longest_line

@@ -1,6 +1,5 @@
 -- `text::scan::dash_at`: the byte there is `-`, and the word ends behind it.
 use mathlib.Core.Path.{sym, ◌∙◌}
-use borrow.Author.Rules.{rules}
 use Rattle.text.proofs.Sets.{dash_past, dash_other, dash_then}
 use Rattle.text.proofs.scan.dash_at.Goals as goal
 

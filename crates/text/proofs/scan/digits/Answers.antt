@@ -1,14 +1,13 @@
 -- `text::scan::digits`: the number is that of the digits ahead, after those passed, which come to no more than is allowed.
-use Prim.Native.Nat.{◌-◌, ◌≤◌, ◌<◌}
+use Prim.Native.Nat.{◌<◌}
 use mathlib.Core.Path.{◌≡◌, refl, sym, ◌∙◌}
-use mathlib.Core.Logic.{⊎_elim}
-use borrow.Author.Rules.{rules}
+use mathlib.Core.Bool.{false}
 use native.Mathlib.Omega.{arith}
-use lib.ListN.{length, drop}
-use Rattle.text.specs.Words.{largest}
-use Rattle.text.specs.Scan.{number_on}
+use lib.ListN.{length, get_or}
+use Rattle.text.specs.Words.{is_digit, largest}
 use Rattle.text.proofs.Numbers.{end_at_lem, space-at, digit_at, large-at, other_at, no_digit_below, no_digit_above}
 use Rattle.text.proofs.scan.digits.Goals as goal
+use Rattle.text.proofs.scan.digits.Goals.{in_default-via-then-b-lt48, in_default-via-else-b-lt48+else-b-lt58}
 
 pub loop-i-init : goal.loop-i-init
 loop-i-init c = (c.requires.0, c.requires.1, refl)
@@ -28,7 +27,7 @@ pub returns-then-v-gt-LARGEST : goal.returns-then-v-gt-LARGEST
 unfolding largest
 returns-then-v-gt-LARGEST c =
     let ahead : c.loop-i.i < length c.args.line.now = omega arith in
-    sym (large-at _ _ _ ahead c.in-48-to-57.if-b-lt48-own.false c.in-48-to-57.if-b-lt58-own.true c.wide.ensures c.if-v-gt-LARGEST.true) ∙ c.loop-i.invariant.2
+    sym (large-at _ _ _ ahead (omega arith) (omega arith) c.wide.ensures (omega arith)) ∙ c.loop-i.invariant.2
 
 pub overflow_add-i : goal.overflow_add-i
 overflow_add-i c = omega arith
@@ -42,7 +41,7 @@ loop-i-preserved c =
     let ahead : c.loop-i.i < length c.args.line.now = omega arith in (
       omega arith,
       c.if-v-gt-LARGEST.false,
-      rw c.wide.ensures (sym (digit_at _ _ _ ahead c.in-48-to-57.if-b-lt48-own.false c.in-48-to-57.if-b-lt58-own.true) ∙ c.loop-i.invariant.2),
+      rw c.wide.ensures (sym (digit_at _ _ _ ahead (omega arith) (omega arith)) ∙ c.loop-i.invariant.2),
     )
 
 pub overflow_cast-result : goal.overflow_cast-result
@@ -57,7 +56,12 @@ returns-then-b-eq32 c =
 pub returns-in_default : goal.returns-in_default
 returns-in_default c =
     let ahead : c.loop-i.i < length c.args.line.now = omega arith in
-    sym (other_at _ _ _ ahead c.if-b-eq32.false (⊎_elim (λ w. no_digit_below _ w.taken) (λ w. no_digit_above _ w.1.left) c.in_default.branch)) ∙ c.loop-i.invariant.2
+    let no_digit : is_digit (get_or c.args.line.now c.loop-i.i 0) ≡ false =
+    elim c.in_default.branch [
+      | in_default-via-then-b-lt48 w ↦ no_digit_below _ (omega arith)
+      | in_default-via-else-b-lt48+else-b-lt58 w ↦ no_digit_above _ (omega arith)
+    ] in
+    sym (other_at _ _ _ ahead c.if-b-eq32.false no_digit) ∙ c.loop-i.invariant.2
 
 pub overflow_cast-result-2 : goal.overflow_cast-result-2
 unfolding largest

@@ -1,17 +1,13 @@
 -- `text::scan::digits`: the number is that of the digits ahead, after those passed, which come to no more than is allowed.
-use Prim.Native.Nat.{◌-◌, ◌≤◌, ◌<◌}
-use mathlib.Core.Path.{◌≡◌, refl, sym, ◌∙◌}
-use mathlib.Core.Logic.{⊎_elim}
-use borrow.Author.Rules.{rules}
-use native.Mathlib.Omega.{arith}
+use Prim.Native.Nat.{◌-◌, ◌≤◌}
+use mathlib.Core.Path.{◌≡◌}
 use lib.ListN.{length, drop}
 use Rattle.text.specs.Words.{largest}
 use Rattle.text.specs.Scan.{number_on}
-use Rattle.text.proofs.Numbers.{end_at_lem, space-at, digit_at, large-at, other_at, no_digit_below, no_digit_above}
 use Rattle.text.proofs.scan.digits.Given as goal
 
 abbrev pub invariant-loop-i : goal.invariant-loop-i
-invariant-loop-i l =     (l.i ≤ length l.line) × (l.v ≤ largest) × (number_on l.v l.i (drop l.i l.line) ≡ number_on l.value l.at (drop l.at l.line))
+invariant-loop-i l = (l.i ≤ length l.line) × (l.v ≤ largest) × (number_on l.v l.i (drop l.i l.line) ≡ number_on l.value l.at (drop l.at l.line))
 
 abbrev pub decreases-loop-i : goal.decreases-loop-i
 decreases-loop-i l = length l.line - l.i

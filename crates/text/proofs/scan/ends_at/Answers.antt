@@ -1,6 +1,5 @@
 -- `text::scan::ends_at`: the line ends there, or the byte there is a space.
 use mathlib.Core.Path.{sym}
-use borrow.Author.Rules.{rules}
 use Rattle.text.proofs.Sets.{ends_past, ends_byte}
 use Rattle.text.proofs.scan.ends_at.Goals as goal
 

@@ -1,9 +1,5 @@
 -- `text::scan::letters`: of the letters that the line begins with, those passed and those ahead are all.
-use Prim.Native.Nat.{◌+◌, ◌-◌, ◌≤◌}
-use mathlib.Core.Path.{◌≡◌}
 use native.Mathlib.Omega.{arith}
-use lib.ListN.{length, drop}
-use Rattle.text.specs.Scan.{letters_of}
 use Rattle.text.proofs.Letters.{letters_more, letters_stop, letters_end, no_letter_below, no_letter_above}
 use Rattle.text.proofs.scan.letters.Goals as goal
 
@@ -24,7 +20,7 @@ loop-i-preserved c =
     omega (
       arith,
       letters_more c.args.line.now c.loop-i.i
-          c.loop-i-test.true c.in-97-to-122.if-b-lt97-own.false c.in-97-to-122.if-b-lt123-own.true,
+          c.loop-i-test.true (omega arith) (omega arith),
     )
 
 pub returns-in_default : goal.returns-in_default
@@ -32,7 +28,7 @@ returns-in_default c =
     omega (
       arith,
       letters_stop c.args.line.now c.loop-i.i
-          c.loop-i-test.true (no_letter_below _ c.in_default.if-b-lt97-own.true),
+          c.loop-i-test.true (no_letter_below _ (omega arith)),
     )
 
 pub returns-in_default-2 : goal.returns-in_default-2
@@ -40,7 +36,7 @@ returns-in_default-2 c =
     omega (
       arith,
       letters_stop c.args.line.now c.loop-i.i
-          c.loop-i-test.true (no_letter_above _ c.in_default.if-b-lt123-own.false),
+          c.loop-i-test.true (no_letter_above _ (omega arith)),
     )
 
 pub returns : goal.returns

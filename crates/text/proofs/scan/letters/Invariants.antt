@@ -1,10 +1,8 @@
 -- `text::scan::letters`: of the letters that the line begins with, those passed and those ahead are all.
 use Prim.Native.Nat.{◌+◌, ◌-◌, ◌≤◌}
 use mathlib.Core.Path.{◌≡◌}
-use native.Mathlib.Omega.{arith}
 use lib.ListN.{length, drop}
 use Rattle.text.specs.Scan.{letters_of}
-use Rattle.text.proofs.Letters.{letters_more, letters_stop, letters_end, no_letter_below, no_letter_above}
 use Rattle.text.proofs.scan.letters.Given as goal
 
 abbrev pub invariant-loop-i : goal.invariant-loop-i

@@ -1,7 +1,6 @@
 -- `text::scan::number_at`: by the byte at the place.
 use mathlib.Core.Path.{sym, ◌∙◌}
 use mathlib.Core.Bool.{true, false}
-use borrow.Author.Rules.{rules}
 use native.Mathlib.Omega.{arith}
 use Rattle.text.specs.Words.{largest}
 use Rattle.text.proofs.Numbers.{here_digit, here_other, no_digit_below, no_digit_above}
@@ -27,10 +26,10 @@ pub returns-in-49-to-57 : goal.returns-in-49-to-57
 returns-in-49-to-57 c =
     c.digits.ensures
     ∙ rw c.wide.ensures
-    (sym (number_byte _ _ c.if-line-at.false ∙ here_digit _ _ _ c.in-49-to-57.if-b-lt48-own.false c.in_default-1.rest.1 c.in-49-to-57.if-b-lt58-own.true))
+    (sym (number_byte _ _ c.if-line-at.false ∙ here_digit _ _ _ (omega arith) (λ e. omega arith) (omega arith)))
 
 pub returns-in_default : goal.returns-in_default
-returns-in_default c = sym (number_byte _ _ c.if-line-at.false ∙ here_other _ _ _ (no_digit_below _ c.in_default.if-b-lt48-own.true))
+returns-in_default c = sym (number_byte _ _ c.if-line-at.false ∙ here_other _ _ _ (no_digit_below _ (omega arith)))
 
 pub returns-in_default-2 : goal.returns-in_default-2
-returns-in_default-2 c = sym (number_byte _ _ c.if-line-at.false ∙ here_other _ _ _ (no_digit_above _ c.in_default.if-b-lt58-own.false))
+returns-in_default-2 c = sym (number_byte _ _ c.if-line-at.false ∙ here_other _ _ _ (no_digit_above _ (omega arith)))

@@ -1,9 +1,6 @@
 -- `text::scan::same`: what is ahead of the bytes compared decides.
-use Prim.Native.Nat.{◌-◌, ◌≤◌}
-use mathlib.Core.Path.{◌≡◌, refl, sym, ◌∙◌}
+use mathlib.Core.Path.{refl, sym, ◌∙◌}
 use native.Mathlib.Omega.{arith}
-use lib.ListN.{length, drop}
-use Rattle.text.specs.Words as words
 use Rattle.text.proofs.Same.{lengths_differ, same_more, bytes-differ, same_end}
 use Rattle.text.proofs.scan.same.Goals as goal
 
@@ -31,12 +28,11 @@ pub loop-i-smaller : goal.loop-i-smaller
 loop-i-smaller c = omega arith
 
 pub loop-i-preserved : goal.loop-i-preserved
-loop-i-preserved c =
-    (
-      omega arith,
-      c.loop-i.invariant.1,
-      sym (same_more _ _ c.loop-i.i c.loop-i-test.true (omega arith) c.if-a-i.false) ∙ c.loop-i.invariant.2,
-    )
+loop-i-preserved c = (
+  omega arith,
+  c.loop-i.invariant.1,
+  sym (same_more _ _ c.loop-i.i c.loop-i-test.true (omega arith) c.if-a-i.false) ∙ c.loop-i.invariant.2,
+)
 
 pub returns : goal.returns
 returns c =

@@ -1,10 +1,8 @@
 -- `text::scan::same`: what is ahead of the bytes compared decides.
 use Prim.Native.Nat.{◌-◌, ◌≤◌}
-use mathlib.Core.Path.{◌≡◌, refl, sym, ◌∙◌}
-use native.Mathlib.Omega.{arith}
+use mathlib.Core.Path.{◌≡◌}
 use lib.ListN.{length, drop}
 use Rattle.text.specs.Words as words
-use Rattle.text.proofs.Same.{lengths_differ, same_more, bytes-differ, same_end}
 use Rattle.text.proofs.scan.same.Given as goal
 
 abbrev pub invariant-loop-i : goal.invariant-loop-i

@@ -1,6 +1,5 @@
 -- `text::scan::set_at`: everyone, or what a number names.
 use mathlib.Core.Path.{sym, ◌∙◌}
-use borrow.Author.Rules.{rules}
 use native.Mathlib.Omega.{arith}
 use Rattle.text.proofs.Sets.{everyone_at, only_at, none_at, dash_within}
 use Rattle.text.proofs.scan.set_at.Goals as goal

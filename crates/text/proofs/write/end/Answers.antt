@@ -1,6 +1,5 @@
 -- `text::write::end`: LOW, HIGH or a name.
 use mathlib.Core.Path.{ap}
-use borrow.Author.Rules.{rules}
 use native.Mathlib.Omega.{arith}
 use lib.ListN.{length}
 use Rattle.text.specs.Words.{ascii}

@@ -1,5 +1,4 @@
 -- `text::write::end_size`: LOW, HIGH or a name.
-use borrow.Author.Rules.{rules}
 use native.Mathlib.Omega.{arith}
 use Rattle.text.specs.Words.{ascii}
 use Rattle.text.specs.Answer.{high_end}

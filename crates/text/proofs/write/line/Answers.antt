@@ -1,5 +1,4 @@
 -- `text::write::line`: by the kind of the answer.
-use borrow.Author.Rules.{rules}
 use native.Mathlib.Omega.{arith}
 use Rattle.text.specs.Words.{ascii}
 use Rattle.text.specs.Answer.{saying, text_of}

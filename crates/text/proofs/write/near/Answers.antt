@@ -1,5 +1,4 @@
 -- `text::write::near`: two ends and a number, with spaces between them.
-use borrow.Author.Rules.{rules}
 use native.Mathlib.Omega.{arith}
 use Rattle.text.specs.Words.{ascii}
 use Rattle.text.proofs.Writing.{written_then}

@@ -1,7 +1,5 @@
 -- `text::write::number`: the digits, last first, until less than ten is left.
-use native.Mathlib.Omega.{arith}
-use lib.ListN.{length-set}
-use Rattle.text.proofs.Writing.{decimal_some, Digits, digits_begin, digits-room, digits_more, digits-end}
+use Rattle.text.proofs.Writing.{Digits}
 use Rattle.text.proofs.write.number.Given as goal
 
 abbrev pub invariant-loop-left : goal.invariant-loop-left

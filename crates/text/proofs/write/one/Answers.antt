@@ -1,5 +1,4 @@
 -- `text::write::one`: a word in front of a number.
-use borrow.Author.Rules.{rules}
 use native.Mathlib.Omega.{arith}
 use Rattle.text.proofs.Writing.{written_then}
 use Rattle.text.proofs.write.one.Goals as goal

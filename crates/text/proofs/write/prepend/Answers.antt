@@ -1,5 +1,4 @@
 -- `text::write::prepend`: the word is put where it ends at `at`.
-use borrow.Author.Rules.{rules}
 use Rattle.text.proofs.Writing.{put_written}
 use Rattle.text.proofs.write.prepend.Goals as goal
 

@@ -1,8 +1,6 @@
 -- `text::write::put`: a copy, byte by byte.
-use Prim.Native.Nat.{◌-◌}
 use native.Mathlib.Omega.{arith}
-use lib.ListN.{length}
-use Rattle.text.proofs.Writing.{Copied, copy_begin, copy_more, copy-end}
+use Rattle.text.proofs.Writing.{copy_begin, copy_more, copy-end}
 use Rattle.text.proofs.write.put.Goals as goal
 
 pub loop-i-init : goal.loop-i-init

@@ -1,8 +1,7 @@
 -- `text::write::put`: a copy, byte by byte.
 use Prim.Native.Nat.{◌-◌}
-use native.Mathlib.Omega.{arith}
 use lib.ListN.{length}
-use Rattle.text.proofs.Writing.{Copied, copy_begin, copy_more, copy-end}
+use Rattle.text.proofs.Writing.{Copied}
 use Rattle.text.proofs.write.put.Given as goal
 
 abbrev pub invariant-loop-i : goal.invariant-loop-i

@@ -1,5 +1,4 @@
 -- `text::write::size`: by the kind of the answer.
-use borrow.Author.Rules.{rules}
 use native.Mathlib.Omega.{arith}
 use Rattle.text.proofs.Sizes.{text_size}
 use Rattle.text.proofs.write.size.Goals as goal

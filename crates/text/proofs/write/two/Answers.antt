@@ -1,6 +1,5 @@
 -- `text::write::two`: a word and a number in front of a space and a number.
 use mathlib.Core.List.{append_assoc}
-use borrow.Author.Rules.{rules}
 use native.Mathlib.Omega.{arith}
 use Rattle.text.specs.Words.{ascii}
 use Rattle.text.proofs.Writing.{written_then}
