@@ -38,7 +38,7 @@ Leaves allows =
 left : (f : Frame) (o : Result) → Leaves (λ r exit. result_in f r exit ≡ o)
 left f o r r' l l' h k p q =
     let e = p ∙ sym q in
-    (suite.change-tells r r' (ap (λ (x : Result). x.outcome) e), one_suite f l l' h k (ap (λ (x : Result). x.suite) e))
+    (suite.change_tells r r' (ap (λ (x : Result). x.outcome) e), one_suite f l l' h k (ap (λ (x : Result). x.suite) e))
 
 -- The public functions. A call and its unchecked form have one contract each: `run` is `call_of` for the one and `step_of` for the other.
 module _ (run : Suite → Call → Result) (f : Frame) (lent : List (List ℕ)) where
@@ -61,4 +61,4 @@ module _ (run : Suite → Call → Result) (f : Frame) (lent : List (List ℕ)) 
   remove-determined read write name = left f (run (suite_in f lent) (remove read write name))
 
 pub is_sound_determined : (f : Frame) (lent : List (List ℕ)) → Determines (λ r. r ≡ sound_suite (suite_in f lent))
-is_sound_determined f lent = suite.is-sound-determined (suite_in f lent)
+is_sound_determined f lent = suite.is_sound_determined (suite_in f lent)

@@ -15,7 +15,7 @@ use Rattle.run.specs.declared.Session.{Session}
 pub session_answers : (lent : List (List ℕ)) (ks : List Chunk) (room : ℕ) → 33 ≤ room
     → (run_chunks (kept.fresh lent) ks).said ++ (finish_of (run_chunks (kept.fresh lent) ks).course room).run.said
     ≡ texts_of (answers_of (kept.fresh lent).standing (whole_lines (lines_in (taken_of (kept.fresh lent) ks))))
-session_answers = kept.session-answers answer_kept
+session_answers = kept.session_answers answer_kept
 
 module _ (session : Session) (lent : List (List ℕ)) where
   pub run-determined : (text out : List ℕ)

@@ -1,0 +1,18 @@
+-- `lookup` checks the suite first.
+use Rattle.suite.specs.Calls.{lookup}
+use Rattle.directory.specs.Lent.{suite_in}
+use Rattle.directory.proofs.Callings.{checked-read, unsound-read}
+use borrow.Author.Rules.{rules}
+use Rattle.directory.proofs.checked.lookup.Goals as goal
+
+pub returns-then-is_sound : goal.returns-then-is_sound
+returns-then-is_sound c =
+    let a = c.args in
+    let fine = c.is_sound in
+    checked-read (suite_in a.frame a.lent.now) (lookup a.set a.name) fine.result fine.ensures c.if-is_sound.true c.lookup_unchecked.ensures
+
+pub returns : goal.returns
+returns c =
+    let a = c.args in
+    let fine = c.is_sound in
+    unsound-read (suite_in a.frame a.lent.now) (lookup a.set a.name) fine.result fine.ensures c.if-is_sound.false

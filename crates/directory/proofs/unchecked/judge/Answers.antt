@@ -1,0 +1,12 @@
+-- `judge` is the frame's judging; the slice of the tiles has eight of them.
+use mathlib.Core.Path.{◌≡◌}
+use lib.ListN.{length}
+use Rattle.directory.proofs.Callings.{each_lent}
+use borrow.Author.Rules.{rules}
+use Rattle.directory.proofs.unchecked.judge.Goals as goal
+
+pub returns : goal.returns
+returns c =
+    let a = c.args in
+    let k : length a.frame.votes ≡ 8 = search rules in
+    (each_lent a.frame a.lent.now c.slice-1.given.0 k, c.judge.ensures)

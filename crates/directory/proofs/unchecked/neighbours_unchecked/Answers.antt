@@ -1,0 +1,40 @@
+-- `neighbours_unchecked` is the neighbour query of the definitions.
+use native.Mathlib.Omega.{arith}
+use lib.Count.{ones-le}
+use Rattle.suite.proofs.Calling.{neighbours-no, neighbours-done}
+use Rattle.directory.specs.Lent.{suite_in}
+use Rattle.directory.proofs.Callings.{Passed, passed}
+use borrow.Author.Rules.{rules}
+use Rattle.directory.proofs.unchecked.neighbours_unchecked.Goals as goal
+use Rattle.directory.proofs.unchecked.neighbours_unchecked.Goals.{In_default}
+
+pub returns-in-No : goal.returns-in-No
+returns-in-No c =
+    let a = c.args in
+    let j = c.judge-judged in
+    neighbours-no (suite_in a.frame a.lent.now) a.set 0 a.name 0
+    j.result c.in-No.is j.ensures.1
+
+-- none of the refusals 5 to 9 applies
+abbrev Passes : tie.Start → Type 0
+Passes c = Passed c.args.frame c.args.lent.now 0 c.args.name 0 c.args.set 0
+
+passes : (c : In_default) → Passes c.before.before.before
+passes c =
+    let a = c.args in
+    let j = c.judge-judged in
+    passed a.frame a.lent.now 0 a.name 0 a.set 0 j.result c.in_default.is j.ensures
+
+pub survey-found-requires : goal.survey-found-requires
+survey-found-requires c = (passes c).reads
+
+pub overflow_mul-result : goal.overflow_mul-result
+overflow_mul-result c =
+    omega (arith, ones-le 32 c.args.set c.ranges.set.fits)
+
+pub returns : goal.returns
+returns c =
+    let a = c.args in
+    let p = passes (goal.at.returns c).In_default in
+    let found = c.survey-found in
+    neighbours-done (suite_in a.frame a.lent.now) p.each a.set a.name p.none found.result found.ensures
