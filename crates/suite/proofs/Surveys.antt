@@ -7,7 +7,6 @@ use lib.ListN.{length}
 use Rattle.member.specs.Tile.{reading_of}
 use Rattle.member.specs.Rounds.{around_of, offer_below_of, offer_above_of}
 use Rattle.member.specs.declared.Member.{Member}
-use Rattle.member.specs.declared.Reading.{Reading}
 use Rattle.member.specs.declared.Reading.TheVariants.{Gap}
 use Rattle.member.specs.declared.Around.{Around}
 use Rattle.member.specs.declared.Side.{Side}

@@ -1,7 +1,6 @@
 -- `judge` gives the first of refusals 5 to 9.
 use mathlib.Core.Path.{sym, ◌∙◌}
 use native.Mathlib.Omega.{arith}
-use borrow.Author.Rules.{rules}
 use Rattle.suite.specs.Suite.{ballots_in}
 use Rattle.suite.proofs.Verdicts.{name-over, value-over, all_there, no_reader, no-writer}
 use Rattle.suite.proofs.Frame.judge.Goals as goal

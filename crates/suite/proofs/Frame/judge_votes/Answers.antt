@@ -1,6 +1,5 @@
 -- `judge_votes` gives refusals 8 and 9.
 use native.Mathlib.Omega.{arith}
-use borrow.Author.Rules.{rules}
 use Rattle.suite.specs.Suite.{ballots_in}
 use Rattle.suite.proofs.Verdicts.{read_short, write-short, enough}
 use Rattle.suite.proofs.Frame.judge_votes.Goals as goal

@@ -1,7 +1,6 @@
 -- A set names only members that exist where nothing is left of it past their digits.
 use mathlib.Core.Path.{ap}
 use Prim.Native.Nat.{ℕ, ◌/◌, ◌^◌}
-use borrow.Author.Rules.{rules}
 use lib.Dec.{eqb}
 use Rattle.suite.proofs.Frame.names_members.Goals as goal
 

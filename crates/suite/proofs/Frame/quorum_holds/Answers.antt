@@ -2,7 +2,6 @@
 use mathlib.Core.Path.{◌≡◌, ap₂, ◌∙◌}
 use Prim.Native.Nat.{ℕ, ◌+◌}
 use native.Mathlib.Omega.{arith}
-use borrow.Author.Rules.{rules}
 use lib.Dec.{ltb}
 use Rattle.suite.specs.Sets.{total}
 use Rattle.suite.specs.Suite.{ballots_in}

@@ -1,15 +1,12 @@
 -- `votes_are_sound` stops at the first vote too large for its place. The invariant: the places from i on decide as all do.
 use mathlib.Core.Logic.{inl, inr}
 use mathlib.Core.Path.{◌≡◌, sym, ◌∙◌}
-use mathlib.Core.Bool.{◌&&◌}
-use Prim.Native.Nat.{◌≤◌, ◌-◌}
 use native.Mathlib.Nat.{sub-zero}
 use native.Mathlib.Omega.{arith}
 use borrow.Author.Rules.{rules}
-use lib.ListN.{length-take, length, drop}
-use Rattle.suite.specs.Sets.{all}
-use Rattle.suite.specs.Suite.{ballots_in, small_vote, no_vote}
-use Rattle.suite.proofs.Used.{used_from, used_from_lem, used-end}
+use lib.ListN.{length-take, length}
+use Rattle.suite.specs.Suite.{small_vote, no_vote}
+use Rattle.suite.proofs.Used.{used_from_lem, used-end}
 use Rattle.suite.proofs.Votes.{Most, votes_stop, votes_on}
 use Rattle.suite.proofs.Frame.votes_are_sound.Goals as goal
 use Rattle.suite.proofs.Frame.votes_are_sound.Goals.{Joined-i-n, then-i-n, else-i-n}

@@ -1,10 +1,4 @@
-use mathlib.Core.Path.{◌≡◌}
-use Prim.Native.Nat.{◌≤◌, ◌+◌, ◌-◌, ◌*◌, ◌^◌}
 use native.Mathlib.Omega.{arith}
-use borrow.Author.Rules.{rules}
-use lib.ListN.{length, drop}
-use Rattle.suite.specs.Suite.{ballots_in}
-use Rattle.suite.specs.Sets.{votes_of}
 use Rattle.suite.proofs.Sets.{votes_named, votes_passed, votes_past}
 use Rattle.suite.proofs.Frame.votes_of.Goals as goal
 use Rattle.suite.proofs.Frame.votes_of.Goals.{then-left-eq1, else-left-eq1}

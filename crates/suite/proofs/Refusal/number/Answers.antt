@@ -1,6 +1,5 @@
 -- `number` gives each refusal its number of the paper's table.
 use mathlib.Core.Path.{sym, ap}
-use borrow.Author.Rules.{rules}
 use Rattle.suite.specs.Outcome.{number_of}
 use Rattle.suite.proofs.Refusal.number.Goals as goal
 

@@ -1,15 +1,11 @@
 -- `ask` fills the table. The invariant: up to place i the table is the target, and from there on the target is what is left to ask.
-use mathlib.Core.Path.{◌≡◌, sym, subst}
-use mathlib.Core.List.{List, []}
-use Prim.Native.Nat.{ℕ, ◌+◌, ◌/◌, ◌≤◌, ◌<◌, ◌-◌}
-use borrow.Author.Rules.{rules}
-use native.Mathlib.Omega.{arith}
+use mathlib.Core.Path.{◌≡◌}
+use Prim.Native.Nat.{◌≤◌, ◌-◌}
 use lib.ListN.{length}
-use Rattle.member.specs.declared.Member.{Member}
 use Rattle.suite.specs.Suite.{tiles}
 use Rattle.suite.specs.Calls.{answer_to}
 use Rattle.suite.specs.Rows.{row_of}
-use Rattle.suite.proofs.Asking.{Asked, asked-start, asked-named, asked-passed, asked-end}
+use Rattle.suite.proofs.Asking.{Asked}
 use Rattle.suite.proofs.Suite.ask.Given as goal
 
 abbrev pub invariant-loop-i : goal.invariant-loop-i

@@ -1,5 +1,4 @@
 -- `blank` has no members: every place is fresh.
-use borrow.Author.Rules.{rules}
 use Rattle.suite.proofs.Suite.blank.Goals as goal
 
 pub returns : goal.returns

@@ -1,15 +1,11 @@
 -- `change` changes the members that the set names. The invariant: up to place i the members are the target, and from there on the
 -- target is what is left to change.
-use mathlib.Core.Path.{◌≡◌, sym, subst}
-use mathlib.Core.List.{[]}
-use Prim.Native.Nat.{◌+◌, ◌/◌, ◌≤◌, ◌<◌, ◌-◌}
-use borrow.Author.Rules.{rules}
-use native.Mathlib.Omega.{arith}
+use mathlib.Core.Path.{◌≡◌}
+use Prim.Native.Nat.{◌≤◌, ◌-◌}
 use lib.ListN.{length}
-use Rattle.member.specs.declared.Member.{Member}
 use Rattle.suite.specs.Suite.{tiles}
 use Rattle.suite.specs.Calls.{effect_of}
-use Rattle.suite.proofs.Asking.{Done, done-start, done-named, done-passed, done_end}
+use Rattle.suite.proofs.Asking.{Done}
 use Rattle.suite.proofs.Suite.change.Given as goal
 
 abbrev pub invariant-loop-i : goal.invariant-loop-i

@@ -4,7 +4,6 @@ use mathlib.Core.Bool.{true}
 use mathlib.Core.List.{List}
 use Prim.Native.Nat.{ℕ}
 use native.Mathlib.Omega.{arith}
-use borrow.Author.Rules.{rules}
 use Rattle.suite.specs.Sets.{all, total}
 use Rattle.suite.specs.Suite.{quorum, small_vote}
 use Rattle.suite.specs.Create.{created_of}

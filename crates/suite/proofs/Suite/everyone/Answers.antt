@@ -1,6 +1,5 @@
 -- `everyone` has a digit set for each member.
 use native.Mathlib.Omega.{arith}
-use borrow.Author.Rules.{rules}
 use lib.Pow.{pow_pos}
 use Rattle.suite.proofs.Sets.{one_shifted}
 use Rattle.suite.proofs.Suite.everyone.Goals as goal

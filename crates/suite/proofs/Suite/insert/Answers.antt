@@ -2,7 +2,6 @@
 use mathlib.Core.Path.{sym, ap, ◌∙◌}
 use Rattle.suite.specs.Calls.{insert, result_of}
 use Rattle.suite.specs.Agree.{call_sound, call_unsound}
-use borrow.Author.Rules.{rules}
 use Rattle.suite.proofs.Suite.insert.Goals as goal
 
 pub returns-then-is_sound : goal.returns-then-is_sound

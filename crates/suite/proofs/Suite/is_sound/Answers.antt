@@ -1,7 +1,6 @@
 -- `is_sound` tests the frame, then the members.
 use mathlib.Core.Path.{◌≡◌, sym, ap, ◌∙◌}
 use mathlib.Core.Bool.{true, false}
-use borrow.Author.Rules.{rules}
 use Rattle.suite.specs.Suite.{frame_of, sound_frame}
 use Rattle.suite.specs.SuiteLaws.{suite_apart}
 use Rattle.suite.proofs.Suite.is_sound.Goals as goal

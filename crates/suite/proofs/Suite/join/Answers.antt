@@ -14,7 +14,6 @@ use Rattle.suite.specs.declared.Effect.TheVariants as effect
 use Rattle.suite.specs.declared.Change.TheVariants as change
 use Rattle.suite.proofs.Surveys.{fits-asked}
 use Rattle.suite.proofs.Calling.{granted-over, granted-full, granted-done}
-use borrow.Author.Rules.{rules}
 use Rattle.suite.proofs.Suite.join.Goals as goal
 
 pub returns-then-newest-ge-LARGEST : goal.returns-then-newest-ge-LARGEST

@@ -1,6 +1,5 @@
 -- Refusals 5 to 9 are what the suite's frame says.
 use mathlib.Core.Path.{ap, ◌∙◌}
-use borrow.Author.Rules.{rules}
 use Rattle.suite.specs.Suite.{ballots_in}
 use Rattle.suite.specs.Calls.{judged}
 use Rattle.suite.specs.declared.Frame.{Frame}

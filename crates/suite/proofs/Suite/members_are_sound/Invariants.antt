@@ -1,19 +1,12 @@
 -- `members_are_sound` stops at the first member that fails its place's test. The invariant: the places from i on decide as all do.
-use mathlib.Core.Logic.{inl, inr}
-use mathlib.Core.Path.{◌≡◌, sym, ◌∙◌}
-use mathlib.Core.List.{[]}
+use mathlib.Core.Path.{◌≡◌}
 use mathlib.Core.Bool.{◌&&◌}
-use Prim.Native.Nat.{◌+◌, ◌≤◌, ◌-◌}
-use native.Mathlib.Nat.{sub-zero}
-use native.Mathlib.Omega.{arith}
-use borrow.Author.Rules.{rules}
-use lib.ListN.{length-take, length, drop}
+use Prim.Native.Nat.{◌≤◌, ◌-◌}
+use lib.ListN.{length, drop}
 use Rattle.member.specs.Sound.{sound_member}
-use Rattle.member.specs.declared.Member.{Member}
 use Rattle.suite.specs.Sets.{all}
 use Rattle.suite.specs.Suite.{tiles, is_fresh}
-use Rattle.member.proofs.Rows.{length_of_map}
-use Rattle.suite.proofs.Used.{used_from, used_from_lem, used-end, tested_here}
+use Rattle.suite.proofs.Used.{used_from}
 use Rattle.suite.proofs.Suite.members_are_sound.Given as goal
 
 abbrev pub invariant-loop-i : goal.invariant-loop-i

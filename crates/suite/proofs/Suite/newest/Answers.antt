@@ -4,7 +4,6 @@ use Rattle.suite.specs.Best.{best}
 use Rattle.suite.specs.Sets.{chosen}
 use Rattle.suite.specs.Rows.{row_reading, beats_at, no_row}
 use Rattle.suite.proofs.Surveys.{newest-is}
-use borrow.Author.Rules.{rules}
 use Rattle.suite.proofs.Suite.newest.Goals as goal
 
 pub returns : goal.returns

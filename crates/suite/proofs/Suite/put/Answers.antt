@@ -10,7 +10,6 @@ use Rattle.suite.specs.declared.Question.TheVariants as question
 use Rattle.suite.specs.declared.Effect.TheVariants as effect
 use Rattle.suite.proofs.Surveys.{fits-asked}
 use Rattle.suite.proofs.Calling.{granted-over, granted-full, granted-done}
-use borrow.Author.Rules.{rules}
 use Rattle.suite.proofs.Suite.put.Goals as goal
 
 pub returns-then-version-ge-LARGEST : goal.returns-then-version-ge-LARGEST

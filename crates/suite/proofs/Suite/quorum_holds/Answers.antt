@@ -1,6 +1,5 @@
 -- R, W and V are what the suite's frame says.
 use mathlib.Core.Path.{ap, ◌∙◌}
-use borrow.Author.Rules.{rules}
 use Rattle.suite.specs.Sets.{total}
 use Rattle.suite.specs.Suite.{ballots_in, quorum}
 use Rattle.suite.specs.declared.Frame.{Frame}

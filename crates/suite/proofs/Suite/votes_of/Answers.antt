@@ -1,6 +1,5 @@
 -- The votes of a set are what the suite's frame says.
 use mathlib.Core.Path.{ap, ◌∙◌}
-use borrow.Author.Rules.{rules}
 use Rattle.suite.specs.Suite.{ballots_in}
 use Rattle.suite.specs.Sets.{votes_of}
 use Rattle.suite.specs.declared.Frame.{Frame}

@@ -1,6 +1,5 @@
 -- `answer` lays a member's answer out as a row.
 use mathlib.Core.Path.{sym, ap, ap₂, ◌∙◌}
-use borrow.Author.Rules.{rules}
 use Rattle.suite.specs.Calls.{answer_to}
 use Rattle.suite.specs.Rows.{row_of, reading_row, around_row, offers_row, fit_row}
 use Rattle.suite.specs.declared.Question.{Question}

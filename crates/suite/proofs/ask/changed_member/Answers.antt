@@ -1,6 +1,5 @@
 -- `changed_member` is the member's own change.
 use mathlib.Core.Path.{sym, ap, ◌∙◌}
-use borrow.Author.Rules.{rules}
 use Rattle.suite.specs.Calls.{effect_of}
 use Rattle.suite.specs.declared.Effect.{Effect}
 use Rattle.suite.proofs.ask.changed_member.Goals as goal

@@ -1,10 +1,9 @@
 -- `placed` copies the votes, place by place.
-use mathlib.Core.Path.{ap, ◌≡◌, refl, ◌∙◌}
-use mathlib.Core.List.{List, ◌++◌}
-use Prim.Native.Nat.{ℕ, ◌≤◌, ◌-◌}
+use mathlib.Core.Path.{ap, refl, ◌∙◌}
+use mathlib.Core.List.{List}
+use Prim.Native.Nat.{ℕ}
 use native.Mathlib.Omega.{arith}
-use borrow.Author.Rules.{rules}
-use lib.ListN.{set, length, take, get_or, replicate}
+use lib.ListN.{set, get_or}
 use Rattle.suite.proofs.Creating.{place-next, place_last}
 use Rattle.suite.proofs.create.placed.Goals as goal
 

@@ -1,11 +1,8 @@
 -- `placed` copies the votes, place by place.
-use mathlib.Core.Path.{ap, ◌≡◌, refl, ◌∙◌}
-use mathlib.Core.List.{List, ◌++◌}
-use Prim.Native.Nat.{ℕ, ◌≤◌, ◌-◌}
-use native.Mathlib.Omega.{arith}
-use borrow.Author.Rules.{rules}
-use lib.ListN.{set, length, take, get_or, replicate}
-use Rattle.suite.proofs.Creating.{place-next, place_last}
+use mathlib.Core.Path.{◌≡◌}
+use mathlib.Core.List.{◌++◌}
+use Prim.Native.Nat.{◌≤◌, ◌-◌}
+use lib.ListN.{length, take, replicate}
 use Rattle.suite.proofs.create.placed.Given as goal
 
 abbrev pub invariant-loop-i : goal.invariant-loop-i

@@ -1,11 +1,8 @@
 -- `votes_fit` stops at the first vote over 15. The invariant: what is left decides as the whole does.
-use mathlib.Core.Path.{◌≡◌, refl, sym, ◌∙◌}
-use Prim.Native.Nat.{◌≤◌, ◌-◌}
+use mathlib.Core.Path.{refl, sym, ◌∙◌}
 use native.Mathlib.Omega.{arith}
-use borrow.Author.Rules.{rules}
 use borrow.Author.Tests.{lt-leb, le-leb}
-use lib.ListN.{length, drop, get_or}
-use Rattle.suite.specs.Sets.{all}
+use lib.ListN.{get_or}
 use Rattle.suite.specs.Suite.{small_vote, largest_vote}
 use Rattle.suite.proofs.All.{all-on, all-stop, all_past}
 use Rattle.suite.proofs.create.votes_fit.Goals as goal

@@ -1,13 +1,9 @@
 -- `votes_fit` stops at the first vote over 15. The invariant: what is left decides as the whole does.
-use mathlib.Core.Path.{◌≡◌, refl, sym, ◌∙◌}
+use mathlib.Core.Path.{◌≡◌}
 use Prim.Native.Nat.{◌≤◌, ◌-◌}
-use native.Mathlib.Omega.{arith}
-use borrow.Author.Rules.{rules}
-use borrow.Author.Tests.{lt-leb, le-leb}
-use lib.ListN.{length, drop, get_or}
+use lib.ListN.{length, drop}
 use Rattle.suite.specs.Sets.{all}
-use Rattle.suite.specs.Suite.{small_vote, largest_vote}
-use Rattle.suite.proofs.All.{all-on, all-stop, all_past}
+use Rattle.suite.specs.Suite.{small_vote}
 use Rattle.suite.proofs.create.votes_fit.Given as goal
 
 abbrev pub invariant-loop-i : goal.invariant-loop-i

@@ -2,12 +2,10 @@
 use mathlib.Core.Path.{◌≡◌, refl, ap, sym, ◌∙◌}
 use mathlib.Core.Bool.{not}
 use mathlib.Core.List.{[]}
-use Prim.Native.Nat.{◌≤◌, ◌-◌}
 use native.Mathlib.Omega.{arith}
 use borrow.Author.Rules.{rules}
 use borrow.Author.Tests.{eq-eqb, ne_eqb}
-use lib.ListN.{length, drop, get_or}
-use Rattle.suite.specs.Sets.{chosen, all}
+use lib.ListN.{length, get_or}
 use Rattle.suite.specs.Rows.{is_set}
 use Rattle.suite.proofs.SetFolds.{every-stop, every-on, every-passed, every-past}
 use Rattle.member.proofs.Rows.{length_of_map}

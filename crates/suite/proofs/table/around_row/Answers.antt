@@ -1,5 +1,4 @@
 -- `around_row` lays an answer of round one out as a row.
-use borrow.Author.Rules.{rules}
 use Rattle.suite.specs.Rows.{around_row}
 use Rattle.suite.proofs.table.around_row.Goals as goal
 

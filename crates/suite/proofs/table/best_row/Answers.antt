@@ -2,14 +2,12 @@
 use mathlib.Core.Bool.{true, false}
 use mathlib.Core.List.{[]}
 use mathlib.Core.Path.{◌≡◌, refl, sym, ◌∙◌}
-use Prim.Native.Nat.{◌≤◌, ◌<◌, ◌-◌}
+use Prim.Native.Nat.{◌<◌}
 use native.Mathlib.Omega.{arith}
 use borrow.Author.Rules.{rules}
-use lib.ListN.{length, drop, get_or}
-use Rattle.suite.specs.Sets.{chosen}
-use Rattle.suite.specs.Best.{best}
-use Rattle.suite.specs.Rows.{beats_at, no_row}
-use Rattle.suite.proofs.SetFolds.{best_on, best-weighed, best-first, best-passed, best_past}
+use lib.ListN.{length, get_or}
+use Rattle.suite.specs.Rows.{beats_at}
+use Rattle.suite.proofs.SetFolds.{best-weighed, best-first, best-passed, best_past}
 use Rattle.member.proofs.Rows.{length_of_map}
 use Rattle.suite.proofs.table.best_row.Goals as goal
 use Rattle.suite.proofs.table.best_row.Goals.{then-left-eq1+then-any+then-beats, then-left-eq1+then-any+else-beats, then-left-eq1+else-any, else-left-eq1}

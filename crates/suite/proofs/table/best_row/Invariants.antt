@@ -1,16 +1,11 @@
 -- `best_row` keeps the best row so far. The invariant: going on with it over the rows left comes to the best of all.
-use mathlib.Core.Bool.{true, false}
-use mathlib.Core.List.{[]}
-use mathlib.Core.Path.{◌≡◌, refl, sym, ◌∙◌}
-use Prim.Native.Nat.{◌≤◌, ◌<◌, ◌-◌}
-use native.Mathlib.Omega.{arith}
-use borrow.Author.Rules.{rules}
-use lib.ListN.{length, drop, get_or}
+use mathlib.Core.Path.{◌≡◌}
+use Prim.Native.Nat.{◌≤◌, ◌-◌}
+use lib.ListN.{drop}
 use Rattle.suite.specs.Sets.{chosen}
 use Rattle.suite.specs.Best.{best}
 use Rattle.suite.specs.Rows.{beats_at, no_row}
-use Rattle.suite.proofs.SetFolds.{best_on, best-weighed, best-first, best-passed, best_past}
-use Rattle.member.proofs.Rows.{length_of_map}
+use Rattle.suite.proofs.SetFolds.{best_on}
 use Rattle.suite.proofs.table.best_row.Given as goal
 
 abbrev pub invariant-loop-i : goal.invariant-loop-i

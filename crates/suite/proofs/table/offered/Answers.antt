@@ -1,6 +1,5 @@
 -- `offered` takes an offer apart.
 use mathlib.Core.Path.{sym, ap}
-use borrow.Author.Rules.{rules}
 use Rattle.suite.specs.Calls.{bound_or}
 use Rattle.suite.proofs.table.offered.Goals as goal
 

@@ -1,5 +1,4 @@
 -- `offers_row` lays an answer of round two out as a row.
-use borrow.Author.Rules.{rules}
 use Rattle.suite.specs.Rows.{offers_row}
 use Rattle.suite.proofs.table.offers_row.Goals as goal
 

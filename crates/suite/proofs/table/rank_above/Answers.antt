@@ -1,7 +1,6 @@
 -- `rank_above` is 0 or the end's distance from above HIGH.
 use mathlib.Core.Path.{sym, ap, ◌∙◌}
 use native.Mathlib.Omega.{arith}
-use borrow.Author.Rules.{rules}
 use Rattle.suite.specs.Calls.{rank_above}
 use Rattle.suite.proofs.table.rank_above.Goals as goal
 

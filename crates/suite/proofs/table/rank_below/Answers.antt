@@ -1,6 +1,5 @@
 -- `rank_below` is 0 or above the end, which has room for one more where it is not past HIGH.
 use mathlib.Core.Path.{sym, ap, ◌∙◌}
-use borrow.Author.Rules.{rules}
 use borrow.Author.Tests.{le-leb, lt-leb}
 use Rattle.suite.specs.Rows.{rank_within}
 use Rattle.suite.proofs.table.rank_below.Goals as goal

@@ -1,6 +1,5 @@
 -- `reading_row` lays a reading out as a row.
 use mathlib.Core.Path.{sym, ap}
-use borrow.Author.Rules.{rules}
 use Rattle.suite.specs.Rows.{reading_row}
 use Rattle.suite.proofs.table.reading_row.Goals as goal
 

@@ -1,6 +1,5 @@
 -- `row_reading` takes the reading from a row.
 use borrow.Author.Tests.{eq-eqb, ne_eqb}
-use borrow.Author.Rules.{rules}
 use Rattle.suite.proofs.table.row_reading.Goals as goal
 
 pub returns-then-row-eq1 : goal.returns-then-row-eq1
