@@ -38,7 +38,7 @@ returns-then-all_fit_coalesce c =
     let fit = question.FitsCoalesce found.below.end found.above.end in
     let e = effect.Coalesce found.below found.above v in
     done a.frame a.lent.now a.write v (2 * ones a.read + ones a.write) fit e (omega arith)
-    c.all_fit_coalesce.result c.all_fit_coalesce.ensures c.if-all_fit_coalesce.true c.coalesce_all.new.1.0 c.coalesce_all.ensures
+    c.all_fit_coalesce.result c.all_fit_coalesce.ensures c.if-all_fit_coalesce.true c.coalesce_all.new.lent c.coalesce_all.ensures
     ∙ joined (suite_in a.frame a.lent.now) a.read a.write a.version found c.greater.result n.result c.greater.ensures n.ensures
 
 pub returns : goal.returns

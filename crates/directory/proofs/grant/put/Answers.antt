@@ -26,7 +26,7 @@ returns-then-all_fit_write c =
     let q = ones a.read + ones a.write in
     done a.frame a.lent.now a.write v q (question.FitsWrite a.name) (effect.Write a.name v a.value) (omega arith)
     c.all_fit_write.result c.all_fit_write.ensures
-    c.if-all_fit_write.true c.write_all.new.1.0 c.write_all.ensures
+    c.if-all_fit_write.true c.write_all.new.lent c.write_all.ensures
 
 pub returns : goal.returns
 returns c =

@@ -8,5 +8,6 @@ use Rattle.directory.proofs.unchecked.judge.Goals as goal
 pub returns : goal.returns
 returns c =
     let a = c.args in
+    let h : length a.lent.now ≡ 8 = search rules in
     let k : length a.frame.votes ≡ 8 = search rules in
-    (each_lent a.frame a.lent.now c.slice-1.given.0 k, c.judge.ensures)
+    (each_lent a.frame a.lent.now h k, c.judge.ensures)

@@ -14,10 +14,8 @@ returns-in-No c =
     j.result c.in-No.is j.ensures.1
 
 -- none of the refusals 5 to 9 applies
-abbrev Passes : tie.Start → Type 0
-Passes c = Passed c.args.frame c.args.lent.now 0 c.args.name 0 c.args.set 0
-
-passes : (c : In_default) → Passes c.before.before.before
+passes : (c : In_default)
+    → Passed c.args.frame c.args.lent.now 0 c.args.name 0 c.args.set 0
 passes c =
     let a = c.args in
     let j = c.judge-judged in

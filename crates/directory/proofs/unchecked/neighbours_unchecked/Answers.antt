@@ -16,17 +16,15 @@ returns-in-No c =
     j.result c.in-No.is j.ensures.1
 
 -- none of the refusals 5 to 9 applies
-abbrev Passes : tie.Start → Type 0
-Passes c = Passed c.args.frame c.args.lent.now 0 c.args.name 0 c.args.set 0
-
-passes : (c : In_default) → Passes c.before.before.before
+passes : (c : In_default)
+    → Passed c.args.frame c.args.lent.now 0 c.args.name 0 c.args.set 0
 passes c =
     let a = c.args in
     let j = c.judge-judged in
     passed a.frame a.lent.now 0 a.name 0 a.set 0 j.result c.in_default.is j.ensures
 
 pub survey-found-requires : goal.survey-found-requires
-survey-found-requires c = (passes c).reads
+survey-found-requires c = (passes (goal.at.survey-found-requires c).In_default).reads
 
 pub overflow_mul-result : goal.overflow_mul-result
 overflow_mul-result c =

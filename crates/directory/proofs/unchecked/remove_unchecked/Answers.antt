@@ -13,11 +13,8 @@ returns-in-No c =
     j.result c.in-No.is j.ensures.1
 
 -- none of the refusals 5 to 9 applies
-abbrev Passes : tie.Start → Type 0
-Passes c =
-    Passed c.args.frame c.args.lent.now c.args.frame.write c.args.name 0 c.args.read c.args.write
-
-passes : (c : In_default) → Passes c.before.before.before.before
+passes : (c : In_default)
+    → Passed c.args.frame c.args.lent.now c.args.frame.write c.args.name 0 c.args.read c.args.write
 passes c =
     let a = c.args in
     let j = c.judge-judged in
@@ -25,7 +22,7 @@ passes c =
     j.result c.in_default.is j.ensures
 
 pub survey-found-requires : goal.survey-found-requires
-survey-found-requires c = (passes c).reads
+survey-found-requires c = (passes (goal.at.survey-found-requires c).In_default).reads
 
 pub returns-in_default-reading : goal.returns-in_default-reading
 returns-in_default-reading c =
@@ -37,4 +34,4 @@ returns c =
     let found = c.survey-found in
     let t = c.join in
     remove-held (passes (goal.at.returns c).In_default) found.result found.ensures c.in-Entry.is
-    (result_in c.args.frame t.result t.new.1.0) t.ensures
+    (result_in c.args.frame t.result t.new.lent) t.ensures

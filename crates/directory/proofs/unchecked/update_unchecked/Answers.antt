@@ -13,11 +13,8 @@ returns-in-No c =
     j.result c.in-No.is j.ensures.1
 
 -- none of the refusals 5 to 9 applies
-abbrev Passes : tie.Start → Type 0
-Passes c =
-    Passed c.args.frame c.args.lent.now c.args.frame.write c.args.name c.args.value c.args.read c.args.write
-
-passes : (c : In_default) → Passes c.before.before.before.before
+passes : (c : In_default)
+    → Passed c.args.frame c.args.lent.now c.args.frame.write c.args.name c.args.value c.args.read c.args.write
 passes c =
     let a = c.args in
     let j = c.judge-judged in
@@ -34,4 +31,4 @@ returns c =
     let n = c.newest-reading in
     let t = c.put in
     update-held (passes (goal.at.returns c).In_default) n.result n.ensures c.in-Entry.is
-    (result_in c.args.frame t.result t.new.1.0) t.ensures
+    (result_in c.args.frame t.result t.new.lent) t.ensures
