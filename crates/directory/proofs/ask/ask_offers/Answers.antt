@@ -1,9 +1,6 @@
 -- `ask_offers` fills the table. The invariant: up to place i the table is the target, and from there on the target is what is left to ask.
-use mathlib.Core.Path.{◌≡◌}
-use mathlib.Core.Logic.{⊎_elim}
 use mathlib.Core.List.{List}
-use Prim.Native.Nat.{ℕ, ◌≤◌, ◌<◌, ◌-◌}
-use borrow.Author.Rules.{rules}
+use Prim.Native.Nat.{ℕ, ◌<◌}
 use native.Mathlib.Omega.{arith}
 use lib.ListN.{length}
 use Rattle.member.specs.declared.Member.{Member}
@@ -11,10 +8,11 @@ use Rattle.suite.specs.Suite.{tiles}
 use Rattle.suite.specs.Calls.{answer_to}
 use Rattle.suite.specs.Rows.{row_of}
 use Rattle.suite.specs.declared.Question.TheVariants as question
-use Rattle.suite.proofs.Asking.{Asked, asked-start}
+use Rattle.suite.proofs.Asking.{asked-start}
 use Rattle.directory.proofs.AskPlaces.{first_in, first-length}
 use Rattle.directory.proofs.AskTable.{row_named, row-passed, row_end}
 use Rattle.directory.proofs.ask.ask_offers.Goals as goal
+use Rattle.directory.proofs.ask.ask_offers.Goals.{then-left-eq1, else-left-eq1}
 
 pub loop-i-init : goal.loop-i-init
 loop-i-init c =
@@ -54,10 +52,10 @@ loop-i-preserved c =
     let inv = k.invariant in
     let h : k.i < length (tiles (first_in n l)) = omega arith in
     let b : k.i < 8 = omega arith in
-    ⊎_elim
-    (λ w. (inv.0, inv.1, omega arith, row_named row n l a.set k.table k.left k.i h b inv.3 c.if-left-eq1.table w.2.result w.0.taken w.2.ensures w.3))
-    (λ w. (inv.0, inv.1, omega arith, row-passed row n l a.set k.table k.left k.i h b inv.3 c.if-left-eq1.table w.0.left w.1))
-    c.if-left-eq1.branch
+    elim c.if-left-eq1.branch [
+      | then-left-eq1 w ↦ (inv.0, inv.1, omega arith, row_named row n l a.set k.table k.left k.i h b inv.3 c.if-left-eq1.table w.offers.result w.if-left-eq1.true w.offers.ensures w.table-is)
+      | else-left-eq1 w ↦ (inv.0, inv.1, omega arith, row-passed row n l a.set k.table k.left k.i h b inv.3 c.if-left-eq1.table w.if-left-eq1.false w.table-is)
+    ]
 
 pub returns : goal.returns
 returns c =

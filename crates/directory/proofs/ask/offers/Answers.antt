@@ -1,6 +1,5 @@
 -- `offers` lays a tile's two offers out as a row.
 use mathlib.Core.Path.{ap, ◌∙◌}
-use borrow.Author.Rules.{rules}
 use Rattle.tile.specs.declared.rounds.Offered.{Offered}
 use Rattle.suite.specs.Rows.{row_of, offers_row}
 use Rattle.directory.proofs.ask.offers.Goals as goal

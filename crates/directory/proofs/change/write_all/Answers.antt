@@ -1,9 +1,7 @@
 -- `write_all` changes the tiles that the set names. The invariant: up to place i they hold the target, and from there on the target is
 -- what is left to change.
-use mathlib.Core.Path.{◌≡◌, sym, subst}
-use mathlib.Core.Logic.{⊎_elim}
-use Prim.Native.Nat.{◌+◌, ◌/◌, ◌≤◌, ◌<◌, ◌-◌}
-use borrow.Author.Rules.{rules}
+use mathlib.Core.Path.{sym, subst}
+use Prim.Native.Nat.{◌+◌, ◌/◌, ◌<◌}
 use native.Mathlib.Omega.{arith}
 use lib.ListN.{length}
 use Rattle.suite.specs.Suite.{tiles}
@@ -13,6 +11,7 @@ use Rattle.suite.proofs.Asking.{Done, done-start}
 use Rattle.directory.proofs.AskPlaces.{first_in, first-length}
 use Rattle.directory.proofs.AskChange.{changed-named, changed-passed, changed_end}
 use Rattle.directory.proofs.change.write_all.Goals as goal
+use Rattle.directory.proofs.change.write_all.Goals.{then-left-eq1, else-left-eq1}
 
 pub loop-i-init : goal.loop-i-init
 loop-i-init c =
@@ -47,22 +46,22 @@ loop-i-preserved c =
     let i = c.loop-i.i in
     let inv = c.loop-i.invariant in
     let h : i < length (tiles (first_in n l₀)) = omega arith in
-    ⊎_elim
-    (λ w. (
-      inv.0,
-      inv.1,
-      omega arith,
-      subst (λ t. Done g (first_in n l₀) a.set (first_in n t) (left / 2) (i + 1)) (sym w.3)
-          (changed-named g l₀ n a.set l left i h inv.3 w.2.last.0 w.0.taken w.2.ensures),
-    ))
-    (λ w. (
-      inv.0,
-      inv.1,
-      omega arith,
-      subst (λ t. Done g (first_in n l₀) a.set (first_in n t) (left / 2) (i + 1)) (sym w.1)
-          (changed-passed g l₀ n a.set l left i h inv.3 w.0.left),
-    ))
-    c.if-left-eq1.branch
+    elim c.if-left-eq1.branch [
+      | then-left-eq1 w ↦ (
+        inv.0,
+        inv.1,
+        omega arith,
+        subst (λ t. Done g (first_in n l₀) a.set (first_in n t) (left / 2) (i + 1)) (sym w.lent-is)
+            (changed-named g l₀ n a.set l left i h inv.3 w.write.new.tile w.if-left-eq1.true w.write.ensures),
+      )
+      | else-left-eq1 w ↦ (
+        inv.0,
+        inv.1,
+        omega arith,
+        subst (λ t. Done g (first_in n l₀) a.set (first_in n t) (left / 2) (i + 1)) (sym w.lent-is)
+            (changed-passed g l₀ n a.set l left i h inv.3 w.if-left-eq1.false),
+      )
+    ]
 
 pub returns : goal.returns
 returns c =

@@ -1,21 +1,17 @@
 -- `write_all` changes the tiles that the set names. The invariant: up to place i they hold the target, and from there on the target is
 -- what is left to change.
-use mathlib.Core.Path.{◌≡◌, sym, subst}
-use mathlib.Core.Logic.{⊎_elim}
-use Prim.Native.Nat.{◌+◌, ◌/◌, ◌≤◌, ◌<◌, ◌-◌}
-use borrow.Author.Rules.{rules}
-use native.Mathlib.Omega.{arith}
+use mathlib.Core.Path.{◌≡◌}
+use Prim.Native.Nat.{◌≤◌, ◌-◌}
 use lib.ListN.{length}
 use Rattle.suite.specs.Suite.{tiles}
 use Rattle.suite.specs.Calls.{effect_of}
 use Rattle.suite.specs.declared.Effect.TheVariants as effect
-use Rattle.suite.proofs.Asking.{Done, done-start}
-use Rattle.directory.proofs.AskPlaces.{first_in, first-length}
-use Rattle.directory.proofs.AskChange.{changed-named, changed-passed, changed_end}
+use Rattle.suite.proofs.Asking.{Done}
+use Rattle.directory.proofs.AskPlaces.{first_in}
 use Rattle.directory.proofs.change.write_all.Given as goal
 
 abbrev pub invariant-loop-i : goal.invariant-loop-i
-invariant-loop-i l =     (l.n ≡ length (tiles (first_in l.n l.initial.lent))) × (l.n ≤ 8) × (l.i ≤ l.n) × Done (effect_of (effect.Write l.name l.version l.value)) (first_in l.n l.initial.lent) l.set (first_in l.n l.lent) l.left l.i
+invariant-loop-i l = (l.n ≡ length (tiles (first_in l.n l.initial.lent))) × (l.n ≤ 8) × (l.i ≤ l.n) × Done (effect_of (effect.Write l.name l.version l.value)) (first_in l.n l.initial.lent) l.set (first_in l.n l.lent) l.left l.i
 
 abbrev pub decreases-loop-i : goal.decreases-loop-i
 decreases-loop-i l = l.n - l.i

@@ -1,19 +1,17 @@
 -- `all_fit_coalesce` stops at the first tile named that says no. The invariant: the places from i on, by what is left of the set, decide as all do.
-use mathlib.Core.Logic.{⊎_elim}
-use mathlib.Core.Bool.{Bool}
-use mathlib.Core.Path.{◌≡◌, refl, sym, ◌∙◌}
-use Prim.Native.Nat.{◌≤◌, ◌<◌, ◌-◌}
+use mathlib.Core.Bool.{Bool, not}
+use mathlib.Core.Path.{refl, sym, ap, ◌∙◌}
+use Prim.Native.Nat.{◌<◌}
 use native.Mathlib.Omega.{arith}
-use borrow.Author.Rules.{rules}
-use lib.ListN.{length, drop}
+use lib.ListN.{length}
 use Rattle.member.specs.Change.{fits_coalesce}
 use Rattle.member.specs.declared.Member.{Member}
-use Rattle.suite.specs.Sets.{chosen, all}
 use Rattle.suite.specs.Suite.{tiles}
 use Rattle.suite.specs.declared.Question.TheVariants as question
 use Rattle.directory.proofs.AskPlaces.{first_in, first-length}
 use Rattle.directory.proofs.AskFolds.{fits_on, fits-stop, fits-passed, fits-end, fits_in_lem}
 use Rattle.directory.proofs.fit.all_fit_coalesce.Goals as goal
+use Rattle.directory.proofs.fit.all_fit_coalesce.Goals.{then-left-eq1+else-not-fits_coalesce, else-left-eq1}
 
 pub loop-i-init : goal.loop-i-init
 loop-i-init c =
@@ -39,7 +37,7 @@ returns-then-not-fits_coalesce c =
     let n = c.places-n in
     let k = c.loop-i in
     let h : k.i < length (tiles (first_in n.result l)) = omega arith in
-    sym (k.invariant.3 ∙ fits-stop room n.result l k.i k.left h c.if-left-eq1.true c.fits_coalesce.result c.fits_coalesce.ensures c.if-not-fits_coalesce.true)
+    sym (k.invariant.3 ∙ fits-stop room n.result l k.i k.left h c.if-left-eq1.true c.fits_coalesce.result c.fits_coalesce.ensures (ap not c.if-not-fits_coalesce.true))
     ∙ fits_in_lem room a.frame l n.result n.ensures.1.0 a.set (question.FitsCoalesce a.below a.above) (λ m. refl)
 
 pub overflow_add-i : goal.overflow_add-i
@@ -57,10 +55,10 @@ loop-i-preserved c =
     let k = c.loop-i in
     let inv = k.invariant in
     let h : k.i < length (tiles (first_in n l)) = omega arith in
-    ⊎_elim
-    (λ w. (inv.0, inv.1, omega arith, inv.3 ∙ fits_on room n l k.i k.left h w.0.taken w.2.result w.2.ensures w.3.left))
-    (λ w. (inv.0, inv.1, omega arith, inv.3 ∙ fits-passed room n l k.i k.left h w.left))
-    c.if-left-eq1.branch
+    elim c.if-left-eq1.branch [
+      | then-left-eq1+else-not-fits_coalesce w ↦ (inv.0, inv.1, omega arith, inv.3 ∙ fits_on room n l k.i k.left h w.if-left-eq1.true w.fits_coalesce.result w.fits_coalesce.ensures (ap not w.if-not-fits_coalesce.false))
+      | else-left-eq1 w ↦ (inv.0, inv.1, omega arith, inv.3 ∙ fits-passed room n l k.i k.left h w.if-left-eq1.false)
+    ]
 
 pub returns : goal.returns
 returns c =

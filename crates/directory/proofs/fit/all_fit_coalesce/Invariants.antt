@@ -1,22 +1,15 @@
 -- `all_fit_coalesce` stops at the first tile named that says no. The invariant: the places from i on, by what is left of the set, decide as all do.
-use mathlib.Core.Logic.{⊎_elim}
-use mathlib.Core.Bool.{Bool}
-use mathlib.Core.Path.{◌≡◌, refl, sym, ◌∙◌}
-use Prim.Native.Nat.{◌≤◌, ◌<◌, ◌-◌}
-use native.Mathlib.Omega.{arith}
-use borrow.Author.Rules.{rules}
+use mathlib.Core.Path.{◌≡◌}
+use Prim.Native.Nat.{◌≤◌, ◌-◌}
 use lib.ListN.{length, drop}
 use Rattle.member.specs.Change.{fits_coalesce}
-use Rattle.member.specs.declared.Member.{Member}
 use Rattle.suite.specs.Sets.{chosen, all}
 use Rattle.suite.specs.Suite.{tiles}
-use Rattle.suite.specs.declared.Question.TheVariants as question
-use Rattle.directory.proofs.AskPlaces.{first_in, first-length}
-use Rattle.directory.proofs.AskFolds.{fits_on, fits-stop, fits-passed, fits-end, fits_in_lem}
+use Rattle.directory.proofs.AskPlaces.{first_in}
 use Rattle.directory.proofs.fit.all_fit_coalesce.Given as goal
 
 abbrev pub invariant-loop-i : goal.invariant-loop-i
-invariant-loop-i l =     (l.n ≡ length (tiles (first_in l.n l.lent)))
+invariant-loop-i l = (l.n ≡ length (tiles (first_in l.n l.lent)))
     × (l.n ≤ 8)
     × (l.i ≤ l.n)
     × (all (λ m. fits_coalesce m l.below l.above) (chosen (tiles (first_in l.n l.lent)) l.set)

@@ -1,7 +1,6 @@
 -- `is_sound` tests the frame, then the tiles.
 use mathlib.Core.Path.{◌≡◌, sym, ◌∙◌}
 use mathlib.Core.Bool.{true, false}
-use borrow.Author.Rules.{rules}
 use Rattle.suite.specs.Suite.{sound_frame}
 use Rattle.suite.specs.SuiteLaws.{suite_apart}
 use Rattle.directory.specs.Lent.{suite_in}

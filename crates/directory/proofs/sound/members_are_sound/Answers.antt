@@ -1,13 +1,12 @@
 -- `members_are_sound` stops at the first tile that fails its place's test. The invariant: the places from i on decide as all do.
-use mathlib.Core.Logic.{⊎_elim, inl, inr}
+use mathlib.Core.Logic.{inl, inr}
 use mathlib.Core.Path.{◌≡◌, sym, ◌∙◌}
 use mathlib.Core.Bool.{◌&&◌}
-use Prim.Native.Nat.{◌+◌, ◌≤◌, ◌-◌}
+use Prim.Native.Nat.{◌+◌}
 use native.Mathlib.Omega.{arith}
-use borrow.Author.Rules.{rules}
 use Rattle.directory.proofs.SoundPlaces.{sound_in, sound_from, sound_start, sound_here, sound_end, sound_places}
 use Rattle.directory.proofs.sound.members_are_sound.Goals as goal
-use Rattle.directory.proofs.sound.members_are_sound.Goals.{Joined-i-n}
+use Rattle.directory.proofs.sound.members_are_sound.Goals.{Joined-i-n, then-i-n, else-i-n}
 
 pub loop-i-init : goal.loop-i-init
 loop-i-init c = (omega arith, sound_start c.places-n.result c.args.lent.now)
@@ -42,10 +41,10 @@ here c =
     let i = c.loop-i.i in
     c.loop-i.invariant.1
     ∙ sound_here n.result i l c.if-i-n.fine (omega arith)
-    (⊎_elim
-    (λ w. inl (w.0.taken, w.3 ∙ w.2.ensures))
-    (λ w. inr (w.0.left, w.3 ∙ w.2.ensures))
-    c.if-i-n.branch)
+    (elim c.if-i-n.branch [
+      | then-i-n w ↦ inl (w.if-i-n.true, w.fine-is ∙ w.is_sound-fine.ensures)
+      | else-i-n w ↦ inr (w.if-i-n.false, w.fine-is ∙ w.is_fresh-fine.ensures)
+    ])
 
 pub loop-i-preserved : goal.loop-i-preserved
 loop-i-preserved c = (omega arith, here (goal.at.loop-i-preserved c).Joined-i-n ∙ rw c.if-fine.true)
