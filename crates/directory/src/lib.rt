@@ -1,6 +1,7 @@
 // The five calls on a suite whose members stand in lent tiles: no call copies a member to ask it. What a call answers, and what it
 // leaves in the lent, is what the rules say of the suite that they hold (`suite_in`).
 #![tactic(auto)]
+
 mod ask;
 mod change;
 mod checked;

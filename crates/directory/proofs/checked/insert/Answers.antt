@@ -2,7 +2,6 @@
 use Rattle.suite.specs.Calls.{insert}
 use Rattle.directory.specs.Lent.{suite_in}
 use Rattle.directory.proofs.Callings.{checked, unsound}
-use borrow.Author.Rules.{rules}
 use Rattle.directory.proofs.checked.insert.Goals as goal
 
 pub returns-then-is_sound : goal.returns-then-is_sound

@@ -2,7 +2,6 @@
 use Rattle.suite.specs.Calls.{lookup}
 use Rattle.directory.specs.Lent.{suite_in}
 use Rattle.directory.proofs.Callings.{checked-read, unsound-read}
-use borrow.Author.Rules.{rules}
 use Rattle.directory.proofs.checked.lookup.Goals as goal
 
 pub returns-then-is_sound : goal.returns-then-is_sound

@@ -1,5 +1,4 @@
 -- `beats` compares in the two columns.
-use borrow.Author.Rules.{rules}
 use Rattle.suite.proofs.RowFacts.{beats-more, beats-level, beats-less}
 use Rattle.directory.proofs.fold.beats.Goals as goal
 

@@ -2,9 +2,8 @@
 use mathlib.Core.Bool.{not, true, false}
 use borrow.Author.Tests.{eq-eqb}
 use mathlib.Core.Path.{◌≡◌, refl, sym, ap, ◌∙◌}
-use Prim.Native.Nat.{◌≤◌, ◌<◌, ◌-◌}
+use Prim.Native.Nat.{◌<◌}
 use native.Mathlib.Omega.{arith}
-use borrow.Author.Rules.{rules}
 use lib.ListN.{length, drop}
 use Rattle.suite.specs.Sets.{chosen}
 use Rattle.suite.specs.Best.{best}
@@ -44,10 +43,10 @@ loop-i-preserved c =
     let inv = k.invariant in
     let h : k.i < length l = omega arith in
     elim c.if-left-eq1.branch [
-      then-left-eq1+then-any+then-beats w ↦ (inv.0, omega (arith, w.at-is), omega arith, row-weighed f l k.i k.left h k.any k.at inv.3 c.if-left-eq1.any c.if-left-eq1.at true w.if-left-eq1.true w.if-any.true (sym w.beats.ensures ∙ w.if-beats.true) w.at-is w.any-is)
-    | then-left-eq1+then-any+else-beats w ↦ (inv.0, omega (arith, w.at-is), omega arith, row-weighed f l k.i k.left h k.any k.at inv.3 c.if-left-eq1.any c.if-left-eq1.at false w.if-left-eq1.true w.if-any.true (sym w.beats.ensures ∙ w.if-beats.false) w.at-is w.any-is)
-    | then-left-eq1+else-any w ↦ (inv.0, omega (arith, w.at-is), omega arith, row_first f l k.i k.left h k.any k.at inv.3 c.if-left-eq1.any c.if-left-eq1.at w.if-left-eq1.true w.if-any.false w.at-is w.any-is)
-    | else-left-eq1 w ↦ (inv.0, omega (arith, w.at-is), omega arith, row-passed f l k.i k.left h k.any k.at inv.3 c.if-left-eq1.any c.if-left-eq1.at w.if-left-eq1.false w.at-is w.any-is)
+      | then-left-eq1+then-any+then-beats w ↦ (inv.0, omega (arith, w.at-is), omega arith, row-weighed f l k.i k.left h k.any k.at inv.3 c.if-left-eq1.any c.if-left-eq1.at true w.if-left-eq1.true w.if-any.true (sym w.beats.ensures ∙ w.if-beats.true) w.at-is w.any-is)
+      | then-left-eq1+then-any+else-beats w ↦ (inv.0, omega (arith, w.at-is), omega arith, row-weighed f l k.i k.left h k.any k.at inv.3 c.if-left-eq1.any c.if-left-eq1.at false w.if-left-eq1.true w.if-any.true (sym w.beats.ensures ∙ w.if-beats.false) w.at-is w.any-is)
+      | then-left-eq1+else-any w ↦ (inv.0, omega (arith, w.at-is), omega arith, row_first f l k.i k.left h k.any k.at inv.3 c.if-left-eq1.any c.if-left-eq1.at w.if-left-eq1.true w.if-any.false w.at-is w.any-is)
+      | else-left-eq1 w ↦ (inv.0, omega (arith, w.at-is), omega arith, row-passed f l k.i k.left h k.any k.at inv.3 c.if-left-eq1.any c.if-left-eq1.at w.if-left-eq1.false w.at-is w.any-is)
     ]
 
 -- what is held when the loop ends
@@ -61,7 +60,9 @@ ended c =
     let l = a.table.now in
     let k = c.loop-i in
     let rest : held l k.any k.at ≡ best_on f k.any (held l k.any k.at) (chosen (drop k.i l) k.left) = elim c.loop-i-test.branch [
-      then-loop-i-test+else-left-ne0 w ↦ row_none f l k.i k.left k.any k.at (ap not (eq-eqb k.left 0 w.if-left-ne0.false)) | else-loop-i-test w ↦ best_past f l k.i k.left k.any (held l k.any k.at) (omega (arith, w.loop-i-test.false)) ] in
+      | then-loop-i-test+else-left-ne0 w ↦ row_none f l k.i k.left k.any k.at (ap not (eq-eqb k.left 0 w.if-left-ne0.false))
+      | else-loop-i-test w ↦ best_past f l k.i k.left k.any (held l k.any k.at) (omega (arith, w.loop-i-test.false))
+    ] in
     rest ∙ sym k.invariant.3
 
 pub offset_bounds-table-at-then-any-2 : goal.offset_bounds-table-at-then-any-2

@@ -7,7 +7,6 @@ use Rattle.suite.specs.declared.Question.TheVariants as question
 use Rattle.suite.specs.declared.Effect.TheVariants as effect
 use Rattle.directory.specs.Lent.{suite_in}
 use Rattle.directory.proofs.Grants.{over, full, done, joined}
-use borrow.Author.Rules.{rules}
 use Rattle.directory.proofs.grant.join.Goals as goal
 
 pub returns-then-newest-ge-LARGEST : goal.returns-then-newest-ge-LARGEST

@@ -5,7 +5,6 @@ use lib.Count.{ones, ones-le}
 use Rattle.suite.specs.declared.Question.TheVariants as question
 use Rattle.suite.specs.declared.Effect.TheVariants as effect
 use Rattle.directory.proofs.Grants.{over, full, done}
-use borrow.Author.Rules.{rules}
 use Rattle.directory.proofs.grant.put.Goals as goal
 
 pub returns-then-version-ge-LARGEST : goal.returns-then-version-ge-LARGEST

@@ -1,18 +1,12 @@
 -- `newest` keeps the newest reading so far. The invariant: going on with it over the tiles left comes to the newest of all.
 use mathlib.Core.Bool.{true, false}
-use mathlib.Core.Path.{◌≡◌, refl, sym, ◌∙◌}
-use Prim.Native.Nat.{◌≤◌, ◌<◌, ◌-◌}
+use mathlib.Core.Path.{refl, sym, ◌∙◌}
+use Prim.Native.Nat.{◌<◌}
 use native.Mathlib.Omega.{arith}
-use borrow.Author.Rules.{rules}
-use lib.ListN.{length, drop}
-use Rattle.member.specs.declared.Reading.TheVariants.{Gap}
-use Rattle.suite.specs.Best.{best}
-use Rattle.suite.specs.Sets.{chosen}
+use lib.ListN.{length}
 use Rattle.suite.specs.Suite.{tiles}
-use Rattle.suite.specs.Calls.{newer}
-use Rattle.suite.proofs.SetFolds.{best_on}
 use Rattle.directory.proofs.AskPlaces.{first_in, first-length}
-use Rattle.directory.proofs.AskFolds.{readings, is-newer, not-newer, newest-weighed, newest-first, newest-passed, newest_end, newest_in}
+use Rattle.directory.proofs.AskFolds.{is-newer, not-newer, newest-weighed, newest-first, newest-passed, newest_end, newest_in}
 use Rattle.directory.proofs.rounds.newest.Goals as goal
 use Rattle.directory.proofs.rounds.newest.Goals.{then-left-eq1+then-any+then-version_of, then-left-eq1+then-any+else-version_of, then-left-eq1+else-any, else-left-eq1}
 
@@ -47,10 +41,10 @@ loop-i-preserved c =
     let inv = k.invariant in
     let h : k.i < length (tiles (first_in n l)) = omega arith in
     elim c.if-left-eq1.branch [
-      then-left-eq1+then-any+then-version_of w ↦ (inv.0, inv.1, omega arith, newest-weighed a.name n l k.i k.left h k.any k.got inv.3 c.if-left-eq1.any c.if-left-eq1.got w.reading-here.result w.reading-here.ensures w.if-left-eq1.true true w.if-any.true (is-newer k.got w.reading-here.result w.version_of.result w.version_of-then-any.result w.version_of.ensures w.version_of-then-any.ensures w.if-version_of.true) w.got-is w.any-is)
-    | then-left-eq1+then-any+else-version_of w ↦ (inv.0, inv.1, omega arith, newest-weighed a.name n l k.i k.left h k.any k.got inv.3 c.if-left-eq1.any c.if-left-eq1.got w.reading-here.result w.reading-here.ensures w.if-left-eq1.true false w.if-any.true (not-newer k.got w.reading-here.result w.version_of.result w.version_of-then-any.result w.version_of.ensures w.version_of-then-any.ensures w.if-version_of.false) w.got-is w.any-is)
-    | then-left-eq1+else-any w ↦ (inv.0, inv.1, omega arith, newest-first a.name n l k.i k.left h k.any k.got inv.3 c.if-left-eq1.any c.if-left-eq1.got w.reading-here.result w.reading-here.ensures w.if-left-eq1.true w.if-any.false w.got-is w.any-is)
-    | else-left-eq1 w ↦ (inv.0, inv.1, omega arith, newest-passed a.name n l k.i k.left h k.any k.got inv.3 c.if-left-eq1.any c.if-left-eq1.got w.if-left-eq1.false w.got-is w.any-is)
+      | then-left-eq1+then-any+then-version_of w ↦ (inv.0, inv.1, omega arith, newest-weighed a.name n l k.i k.left h k.any k.got inv.3 c.if-left-eq1.any c.if-left-eq1.got w.reading-here.result w.reading-here.ensures w.if-left-eq1.true true w.if-any.true (is-newer k.got w.reading-here.result w.version_of.result w.version_of-then-any.result w.version_of.ensures w.version_of-then-any.ensures w.if-version_of.true) w.got-is w.any-is)
+      | then-left-eq1+then-any+else-version_of w ↦ (inv.0, inv.1, omega arith, newest-weighed a.name n l k.i k.left h k.any k.got inv.3 c.if-left-eq1.any c.if-left-eq1.got w.reading-here.result w.reading-here.ensures w.if-left-eq1.true false w.if-any.true (not-newer k.got w.reading-here.result w.version_of.result w.version_of-then-any.result w.version_of.ensures w.version_of-then-any.ensures w.if-version_of.false) w.got-is w.any-is)
+      | then-left-eq1+else-any w ↦ (inv.0, inv.1, omega arith, newest-first a.name n l k.i k.left h k.any k.got inv.3 c.if-left-eq1.any c.if-left-eq1.got w.reading-here.result w.reading-here.ensures w.if-left-eq1.true w.if-any.false w.got-is w.any-is)
+      | else-left-eq1 w ↦ (inv.0, inv.1, omega arith, newest-passed a.name n l k.i k.left h k.any k.got inv.3 c.if-left-eq1.any c.if-left-eq1.got w.if-left-eq1.false w.got-is w.any-is)
     ]
 
 pub returns : goal.returns

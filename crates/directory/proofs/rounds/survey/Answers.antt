@@ -1,6 +1,5 @@
 -- `survey` reads the two rounds out of the table, one after the other.
 use mathlib.Core.Path.{ap, ◌∙◌}
-use borrow.Author.Rules.{rules}
 use Rattle.suite.specs.Best.{best}
 use Rattle.suite.specs.Sets.{chosen}
 use Rattle.suite.specs.Rows.{row_reading, beats_at, no_row}

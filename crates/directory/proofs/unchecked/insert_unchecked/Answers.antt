@@ -1,7 +1,6 @@
 -- `insert_unchecked` is the insert of the definitions.
 use Rattle.directory.specs.Lent.{result_in}
 use Rattle.directory.proofs.Callings.{Passed, passed, insert-refused, insert-new, insert-held}
-use borrow.Author.Rules.{rules}
 use Rattle.directory.proofs.unchecked.insert_unchecked.Goals as goal
 use Rattle.directory.proofs.unchecked.insert_unchecked.Goals.{In_default}
 

@@ -2,7 +2,6 @@
 use Rattle.suite.proofs.Calling.{lookup-no, lookup-done}
 use Rattle.directory.specs.Lent.{suite_in}
 use Rattle.directory.proofs.Callings.{Passed, passed}
-use borrow.Author.Rules.{rules}
 use Rattle.directory.proofs.unchecked.lookup_unchecked.Goals as goal
 use Rattle.directory.proofs.unchecked.lookup_unchecked.Goals.{In_default}
 

@@ -4,7 +4,6 @@ use lib.Count.{ones-le}
 use Rattle.suite.proofs.Calling.{neighbours-no, neighbours-done}
 use Rattle.directory.specs.Lent.{suite_in}
 use Rattle.directory.proofs.Callings.{Passed, passed}
-use borrow.Author.Rules.{rules}
 use Rattle.directory.proofs.unchecked.neighbours_unchecked.Goals as goal
 use Rattle.directory.proofs.unchecked.neighbours_unchecked.Goals.{In_default}
 

@@ -1,7 +1,6 @@
 -- `remove_unchecked` is the remove of the definitions.
 use Rattle.directory.specs.Lent.{result_in}
 use Rattle.directory.proofs.Callings.{Passed, passed, remove_refused, remove-new, remove-held}
-use borrow.Author.Rules.{rules}
 use Rattle.directory.proofs.unchecked.remove_unchecked.Goals as goal
 use Rattle.directory.proofs.unchecked.remove_unchecked.Goals.{In_default}
 

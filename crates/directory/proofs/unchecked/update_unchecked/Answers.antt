@@ -1,7 +1,6 @@
 -- `update_unchecked` is the update of the definitions.
 use Rattle.directory.specs.Lent.{result_in}
 use Rattle.directory.proofs.Callings.{Passed, passed, update-refused, update-new, update-held}
-use borrow.Author.Rules.{rules}
 use Rattle.directory.proofs.unchecked.update_unchecked.Goals as goal
 use Rattle.directory.proofs.unchecked.update_unchecked.Goals.{In_default}
 
