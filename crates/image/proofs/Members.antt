@@ -58,7 +58,7 @@ module _ (w : ℕ) (names : 2 ^ w ≡ suc largest_name) where
   row_in x r h = record {
     name-max = omega (arith, h.name-fits, names);
     version-min = h.version-min;
-    version-max = omega (arith, h.version-fits);
+    version-max = omega (arith, h.version_fits);
     value-max = omega (arith, h.value-fits);
     gap-max = omega (arith, h.gap-fits);
   }

@@ -72,7 +72,7 @@ module _ (image : List ℕ) (w : ℕ) (narrow : w ≤ 24) where
       (λ version. judged_matches (leb 1 version) 17
       (then-matches (λ (r : Row). r.value) (field-matches image 16 (omega arith)) (λ a r i h. ap (λ (s : Row). s.value) h.1)
       (λ value. made-matches (λ (r : Row). r.gap) (field-matches image 24 (omega arith)) {f = λ gap. row_with name version value gap} (λ a h. refl)))))))
-      (λ r h. (h.name-fits, (le-leb x r.name h.name-above, (h.version-fits, (le-leb 1 r.version h.version-min, (h.value-fits, (h.gap-fits, refl)))))))
+      (λ r h. (h.name-fits, (le-leb x r.name h.name-above, (h.version_fits, (le-leb 1 r.version h.version-min, (h.value-fits, (h.gap-fits, refl)))))))
       (λ r h. record {
         name-fits = h.0;
         name-above = leb-true x r.name h.1.0;
@@ -128,7 +128,7 @@ module _ (image : List ℕ) (w : ℕ) (narrow : w ≤ 24) where
       (λ members h. take_at members (replicate (8 - length members) fresh_tile) (length votes) h.many)))))))))
       (λ s h. (
         omega arith,
-        (eq-eqb edition edition refl, (h.count_fits, (h.read_fits, (h.write-fits, (h.votes-fit, (h.enough, (h.members-fit, h.shape))))))),
+        (eq-eqb edition edition refl, (h.count_fits, (h.read_fits, (h.write_fits, (h.votes-fit, (h.enough, (h.members-fit, h.shape))))))),
       ))
       (λ s h. record {
         count_fits = h.1.1.0;

@@ -1,5 +1,6 @@
 // The suite image: a suite as bytes, written and read back. The members stand in lent tiles.
 #![tactic(auto)]
+
 mod entries;
 mod reader;
 mod writer;

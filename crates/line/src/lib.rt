@@ -1,5 +1,6 @@
 // One command line in, its answer out, on a suite whose members stand in lent tiles.
 #![tactic(auto)]
+
 mod commands;
 mod creation;
 mod reply;

@@ -1,0 +1,12 @@
+-- `copy` copies byte after byte.
+use mathlib.Core.Path.{◌≡◌}
+use mathlib.Core.List.{◌++◌}
+use Prim.Native.Nat.{◌-◌, ◌≤◌}
+use lib.ListN.{length, take, drop}
+use Rattle.image.proofs.writer.copy.Given as goal
+
+abbrev pub invariant-loop-i : goal.invariant-loop-i
+invariant-loop-i l = (l.to ≡ take l.i l.from ++ drop l.i l.initial.to) × ((l.i ≤ length l.from) × (length l.to ≡ length l.initial.to))
+
+abbrev pub decreases-loop-i : goal.decreases-loop-i
+decreases-loop-i l = length l.from - l.i
