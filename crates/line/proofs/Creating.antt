@@ -1,13 +1,11 @@
 -- A line before a suite is accepted: a creation, or refusal 14.
 use mathlib.Core.Path.{◌≡◌, refl, sym, ap, ◌∙◌}
-use mathlib.Core.List.{List, [], ◌∷◌, map}
+use mathlib.Core.List.{List, [], map}
 use mathlib.Core.Bool.{true}
 use mathlib.Core.Option.{none}
 use Prim.Native.Nat.{ℕ, ◌<◌, ◌≤◌}
 use lib.ListN.{take, replicate}
 use borrow.Author.Tests.{lt-ltb, le-ltb}
-use types.Run.{OneOf, miss}
-use denote.Enum.Declared.{tag_of}
 use Rattle.member.specs.Tile.{fresh_tile}
 use Rattle.tile.specs.Lent.{rows_in, tile_in}
 use Rattle.suite.specs.Suite.{frame_of}
@@ -19,7 +17,6 @@ use Rattle.suite.specs.declared.Refusal.{Refusal}
 use Rattle.suite.specs.declared.Suite.{Suite}
 use Rattle.suite.specs.declared.Created.{Created}
 use Rattle.suite.specs.declared.Creation.TheVariants as creation
-use Rattle.text.specs.contracts.Command.{the_type}
 use Rattle.text.specs.declared.Command.{Command}
 use Rattle.text.specs.declared.Command.TheVariants as command
 use Rattle.text.specs.declared.Parsed.{Parsed}
@@ -31,11 +28,8 @@ use Rattle.line.specs.declared.State.{State}
 use Rattle.line.specs.declared.Said.{Said}
 
 -- any kind of command but the first
-abbrev others : List ℕ
-others = 1 ∷ (2 ∷ (3 ∷ (4 ∷ (5 ∷ (6 ∷ [])))))
-
-not_suite : (p : Parsed) (k : Command) → OneOf others (tag_of the_type k) → creation_for p k ≡ none
-not_suite p (command.Suite r w) h = absurd (miss others 0 tt h)
+not_suite : (p : Parsed) (k : Command) → ((r w : ℕ) → k ≡ command.Suite r w → ⊥) → creation_for p k ≡ none
+not_suite p (command.Suite r w) h = absurd (h r w refl)
 not_suite p (command.Look rs x) h = refl
 not_suite p (command.Near rs x) h = refl
 not_suite p (command.Insert rs ws x v) h = refl
@@ -57,7 +51,7 @@ module _ (t : State) (l : List (List ℕ)) (p : Parsed) where
   abbrev Refusing : Said → ℕ → Type 0
   Refusing s n = s ≡ record { reply = Refused n; state = t }
 
-  pub other-first : OneOf others (tag_of the_type p.command) → (s : Said) → Refusing s 14
+  pub other-first : ((r w : ℕ) → p.command ≡ command.Suite r w → ⊥) → (s : Said) → Refusing s 14
       → answer_in s l ≡ without_suite (standing_in t l) (creation_for p p.command)
   unfolding without_suite
   other-first h s e = rw (not_suite p p.command h, e)

@@ -1,5 +1,4 @@
 -- `answer_unchecked` goes by whether a suite has been accepted.
-use borrow.Author.Rules.{rules}
 use Rattle.line.proofs.Answering.{when-made, until-made}
 use Rattle.line.proofs.answer_unchecked.Goals as goal
 

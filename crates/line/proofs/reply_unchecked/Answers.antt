@@ -1,5 +1,4 @@
 -- `reply_unchecked` carries out the line's command.
-use borrow.Author.Rules.{rules}
 use Rattle.line.proofs.Answering.{on-accepted}
 use Rattle.line.proofs.reply_unchecked.Goals as goal
 

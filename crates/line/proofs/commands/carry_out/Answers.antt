@@ -1,5 +1,4 @@
 -- `carry_out` goes by the command.
-use borrow.Author.Rules.{rules}
 use Rattle.line.proofs.Calling.{none-on}
 use Rattle.line.proofs.commands.carry_out.Goals as goal
 

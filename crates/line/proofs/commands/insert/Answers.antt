@@ -1,5 +1,4 @@
 -- `insert` inserts with the sets given.
-use borrow.Author.Rules.{rules}
 use Rattle.line.proofs.Calling.{insert-on}
 use Rattle.line.proofs.commands.insert.Goals as goal
 

@@ -1,5 +1,4 @@
 -- `look` looks the name up in the set given.
-use borrow.Author.Rules.{rules}
 use Rattle.line.proofs.Calling.{look-on}
 use Rattle.line.proofs.commands.look.Goals as goal
 

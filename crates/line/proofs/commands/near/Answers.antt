@@ -1,5 +1,4 @@
 -- `near` asks the set given for the neighbours.
-use borrow.Author.Rules.{rules}
 use Rattle.line.proofs.Calling.{near_on}
 use Rattle.line.proofs.commands.near.Goals as goal
 

@@ -1,5 +1,4 @@
 -- `remove` removes with the sets given.
-use borrow.Author.Rules.{rules}
 use Rattle.line.proofs.Calling.{remove-on}
 use Rattle.line.proofs.commands.remove.Goals as goal
 

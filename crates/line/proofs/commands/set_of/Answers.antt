@@ -1,5 +1,4 @@
 -- `set_of`: `-` is everyone.
-use borrow.Author.Rules.{rules}
 use Rattle.line.proofs.commands.set_of.Goals as goal
 
 pub returns-in-Everyone : goal.returns-in-Everyone

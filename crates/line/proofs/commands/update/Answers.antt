@@ -1,5 +1,4 @@
 -- `update` updates with the sets given.
-use borrow.Author.Rules.{rules}
 use Rattle.line.proofs.Calling.{update-on}
 use Rattle.line.proofs.commands.update.Goals as goal
 

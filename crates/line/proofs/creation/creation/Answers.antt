@@ -9,7 +9,7 @@ use Rattle.line.proofs.creation.creation.Goals as goal
 pub returns-in_default : goal.returns-in_default
 returns-in_default c =
     let a = c.args in
-    other-first a.state a.lent.now a.parsed c.in_default.in_default-own.keys2 c.refused.result c.refused.ensures
+    other-first a.state a.lent.now a.parsed c.in_default.not-Suite c.refused.result c.refused.ensures
 
 pub returns-then-count-gt-VOTES : goal.returns-then-count-gt-VOTES
 returns-then-count-gt-VOTES c =

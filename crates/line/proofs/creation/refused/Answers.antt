@@ -1,5 +1,4 @@
 -- `refused` gives the number alone.
-use borrow.Author.Rules.{rules}
 use Rattle.line.proofs.creation.refused.Goals as goal
 
 pub returns : goal.returns

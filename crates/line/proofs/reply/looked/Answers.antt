@@ -1,5 +1,4 @@
 -- `looked` replies with the reading, or with the refusal.
-use borrow.Author.Rules.{rules}
 use Rattle.line.proofs.Calling.{shown_is}
 use Rattle.line.proofs.reply.looked.Goals as goal
 

@@ -1,5 +1,4 @@
 -- `near` replies with both neighbours and the requests, or with the refusal.
-use borrow.Author.Rules.{rules}
 use Rattle.line.proofs.reply.near.Goals as goal
 
 pub returns-in-Is : goal.returns-in-Is

@@ -1,5 +1,4 @@
 -- `put` replies with the version, or with the refusal.
-use borrow.Author.Rules.{rules}
 use Rattle.line.proofs.reply.put.Goals as goal
 
 pub returns-in-Done : goal.returns-in-Done

@@ -1,5 +1,4 @@
 -- `removed` replies with the version and the requests, or with the refusal.
-use borrow.Author.Rules.{rules}
 use Rattle.line.proofs.reply.removed.Goals as goal
 
 pub returns-in-Done : goal.returns-in-Done

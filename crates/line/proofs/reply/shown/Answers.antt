@@ -1,5 +1,4 @@
 -- `shown`: an entry is `at`, a gap `none`.
-use borrow.Author.Rules.{rules}
 use Rattle.line.proofs.reply.shown.Goals as goal
 
 pub returns-in-Entry : goal.returns-in-Entry
