@@ -1,4 +1,4 @@
-# What the scripts of hosts/ share: where things stand, and the builds. To be sourced.
+# What ./directory and the scripts of hosts/ share: where things stand, and the builds. To be sourced.
 set -euo pipefail
 
 root=$(cd "$(dirname "${BASH_SOURCE[0]}")/.." && pwd)
@@ -14,11 +14,11 @@ fail() {
     exit 1
 }
 
-# Whether a product is missing or older than something in the folders and files after it.
+# Whether a product is missing or older than a file in the folders and files after it. What rt keeps in out/ does not count.
 stale() {
     local product=$1
     shift
-    [[ ! -e $product || -n $(find "$@" -newer "$product" -print -quit) ]]
+    [[ ! -e $product || -n $(find "$@" -name out -prune -o -type f -newer "$product" -print -quit) ]]
 }
 
 # The second program's library, line program, generator and examples, without checks, for speed.
@@ -37,10 +37,11 @@ build_second() {
         fail "the paper's examples do not build"
 }
 
-# The proved bench call as a static library. rt ci removes it, and the first script after builds it.
+# The proved bench call as a static library. `rt ci` leaves none, so the first script after it proves and builds it.
 build_library() {
     stale "$library" "$root/crates.txt" "$root/crates" || return 0
-    (cd "$root" && rt staticlib bench) || fail "rt staticlib bench did not build $library"
+    (cd "$root/crates/bench_c" && rt lib) || fail "rt lib did not build the crate bench_c"
+    install -D -m 644 "$root/crates/bench_c/out/libbench_c.a" "$library" || fail "the crate bench_c left no library"
 }
 
 # A Rust host of the bench call, hosts/bench/NAME, into target/hosts/NAME.
@@ -57,7 +58,9 @@ build_host() {
         -L native="$(dirname "$library")" || fail "the host $name does not build"
 }
 
-# The proved line program, which rt check or rt ci has built.
-need_program() {
-    [[ -x $program ]] || fail "target/bin/program is missing: 'rt check program' proves and builds the line program"
+# The proved line program. .ci/run puts the one here that rt ci built; else `rt run` proves and builds it, on no input.
+build_program() {
+    stale "$program" "$root/crates.txt" "$root/crates" || return 0
+    (cd "$root/crates/program" && rt run </dev/null) >&2 || fail "the program is not proved, so it is not built"
+    install -D "$root/crates/program/out/program" "$program" || fail "the crate program left no program"
 }

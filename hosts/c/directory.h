@@ -1,8 +1,8 @@
 /* The bench call of the soft-bit directory: one operation on a suite that is handed over as bytes.
  *
  * The function is proved against the rules paper and stands in target/staticlib/libbench.a, which
- * `rt staticlib bench` makes. It needs memcpy, memmove and memset and nothing else. example.c in this
- * folder shows its use, image.h how an image is made and how long one is.
+ * hosts/c/run makes: `rt lib` in crates/bench_c builds it. It needs memcpy, memmove and memset and nothing
+ * else. example.c in this folder shows its use, image.h how an image is made and how long one is.
  */
 #ifndef DIRECTORY_H
 #define DIRECTORY_H

@@ -9,8 +9,7 @@ ghost use Rattle.bench.specs.Bench.{stepped, bench_of};
 use suite::Refusal;
 
 // `image` is image in and `out` image out. Each refusal leaves `out` and `answer` as they were.
-#[unsafe(no_mangle)]
-pub extern "C" fn directory_step(
+pub fn directory_step(
     operation: u32,
     read: u32,
     write: u32,

@@ -1,22 +1,48 @@
 // The line program over standard input and standard output. It only moves bytes: what is answered is settled in crate `run`.
 #![tactic(auto)]
-use libc::{STDIN_FILENO, STDOUT_FILENO};
+
+ghost use Rattle.std.specs.Prelude.{◌≤◌, length};
+
 use run::Session;
+use std::io;
+use std::io::{Input, Print, Read, Write};
 
 // How much is read at a time, and for how many times: the first 16,777,216 bytes of input and no more.
 const CHUNK: usize = 65_536;
 
 const CHUNKS: usize = 256;
 
-// What is left to do: the session, and whether to go on. A write that fails ends the program.
+// What is left to do: the session, and whether to go on.
 #[derive(Clone, Copy)]
 pub struct Going {
     pub session: Session,
     pub on: bool,
 }
 
-// Answers a whole chunk, as many answers at a time as the output has room for.
-fn answer(session: Session, lent: &mut [[u32; 130]; 8], text: &[u8], out: &mut [u8]) -> Going {
+// Reads until `text` is full, the input ends or a read fails, which counts as the end of the input. Says how many bytes of
+// `text` were read.
+fn fill<R: Read>(from: &mut R, text: &mut [u8]) -> usize
+    ensures within { result ≤ length text.new }
+{
+    let mut done = 0;
+    while done < text.len() {
+        match from.read(&mut text[done..]) {
+            Ok(0) => return done,
+            Ok(got) => done += got,
+            Err(_) => return done,
+        }
+    }
+    done
+}
+
+// Answers a whole chunk, as many answers at a time as the output has room for. A write that fails is the error.
+fn answer<W: Write>(
+    to: &mut W,
+    session: Session,
+    lent: &mut [[u32; 130]; 8],
+    text: &[u8],
+    out: &mut [u8],
+) -> io::Result<Going> {
     let mut session = session;
     let mut at = 0;
     while at < text.len() {
@@ -25,25 +51,25 @@ fn answer(session: Session, lent: &mut [[u32; 130]; 8], text: &[u8], out: &mut [
         let taken = ran.taken;
         let written = ran.written;
         if out.len() < written {
-            return Going { session, on: false };
+            return Ok(Going { session, on: false });
         }
-        if !io::write_all(STDOUT_FILENO, &out[..written]) {
-            return Going { session, on: false };
-        }
+        to.write_all(&out[..written])?;
         if taken == 0 {
-            return Going { session, on: false };
+            return Ok(Going { session, on: false });
         }
         if text.len() - at < taken {
-            return Going { session, on: false };
+            return Ok(Going { session, on: false });
         }
         at += taken;
     }
-    Going { session, on: true }
+    Ok(Going { session, on: true })
 }
 
 // Reads standard input to its end, or to the most that is read of it, and answers each line on standard output. A read that
-// fails counts as the end of the input.
-pub fn console() {
+// fails counts as the end of the input; a write that fails ends the program at once, and is the error.
+pub fn console<R: Input + Print>(rt: &R) -> io::Result<()> {
+    let mut from = rt.reader();
+    let mut to = io::writer(rt);
     let none = [0u32; 130];
     let mut lent = [none; 8];
     let mut text = [0u8; CHUNK];
@@ -51,11 +77,11 @@ pub fn console() {
     let mut session = Session::start();
     let mut left = CHUNKS;
     while 0 < left {
-        let got = io::read_full(STDIN_FILENO, &mut text);
-        let going = answer(session, &mut lent, &text[..got], &mut out);
+        let got = fill(&mut from, &mut text);
+        let going = answer(&mut to, session, &mut lent, &text[..got], &mut out)?;
         session = going.session;
         if !going.on {
-            return;
+            return Ok(());
         }
         left -= 1;
         if got < CHUNK {
@@ -65,6 +91,7 @@ pub fn console() {
     let last = run::finish(session, &mut lent, &mut out);
     let written = last.written;
     if written <= out.len() {
-        io::write_all(STDOUT_FILENO, &out[..written]);
+        to.write_all(&out[..written])?;
     }
+    Ok(())
 }

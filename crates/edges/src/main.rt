@@ -2,6 +2,7 @@
 // has it, an arrow, and what came of it with the requests last. A line that begins with # says what the calls below show.
 // The stored output is what the second program says.
 #![tactic(auto)]
+
 mod build;
 mod calls;
 mod dead;
@@ -10,27 +11,30 @@ mod refusals;
 mod say;
 mod soundness;
 
-fn main() {
-    edges::votes_and_quorums();
-    edges::set_zero();
-    edges::largest_version();
-    edges::leftover_in_a_full_member();
-    edges::removal_from_a_full_member();
-    dead::counting_members();
-    dead::one_members_neighbour();
-    dead::version_from_entries_alone();
-    dead::version_of_a_split_gap();
-    dead::stale_predecessor();
-    dead::stale_successor();
-    soundness::quorum();
-    soundness::places();
-    soundness::members();
-    refusals::creation();
-    refusals::names();
-    refusals::values();
-    refusals::sets();
-    refusals::eight_members();
-    refusals::new_versions();
-    refusals::room();
-    refusals::version_before_room();
+use std::io;
+
+fn main(rt: HostRuntime) -> io::Result<()> {
+    edges::votes_and_quorums(&rt)?;
+    edges::set_zero(&rt)?;
+    edges::largest_version(&rt)?;
+    edges::leftover_in_a_full_member(&rt)?;
+    edges::removal_from_a_full_member(&rt)?;
+    dead::counting_members(&rt)?;
+    dead::one_members_neighbour(&rt)?;
+    dead::version_from_entries_alone(&rt)?;
+    dead::version_of_a_split_gap(&rt)?;
+    dead::stale_predecessor(&rt)?;
+    dead::stale_successor(&rt)?;
+    soundness::quorum(&rt)?;
+    soundness::places(&rt)?;
+    soundness::members(&rt)?;
+    refusals::creation(&rt)?;
+    refusals::names(&rt)?;
+    refusals::values(&rt)?;
+    refusals::sets(&rt)?;
+    refusals::eight_members(&rt)?;
+    refusals::new_versions(&rt)?;
+    refusals::room(&rt)?;
+    refusals::version_before_room(&rt)?;
+    Ok(())
 }

@@ -1,5 +1,8 @@
 // Every edge of the grammar, run.
 #![tactic(auto)]
-fn main() {
-    console::console();
+
+use std::io;
+
+fn main(rt: HostRuntime) -> io::Result<()> {
+    console::console(&rt)
 }

@@ -1,5 +1,8 @@
 // A mixed script, run.
 #![tactic(auto)]
-fn main() {
-    console::console();
+
+use std::io;
+
+fn main(rt: HostRuntime) -> io::Result<()> {
+    console::console(&rt)
 }

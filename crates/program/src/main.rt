@@ -1,5 +1,8 @@
 // The line program: commands on standard input, answers on standard output.
 #![tactic(auto)]
-fn main() {
-    console::console();
+
+use std::io;
+
+fn main(rt: HostRuntime) -> io::Result<()> {
+    console::console(&rt)
 }
