@@ -1,5 +1,6 @@
 // The bench call: one call on the directory, over the bytes that the simulation bench lends.
 #![tactic(auto)]
+
 mod answer;
 mod call;
 

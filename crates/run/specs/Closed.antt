@@ -3,7 +3,7 @@
 use Rattle.std.specs.Prelude.{ℕ, ◌≤◌, ◌≡◌, List, ◌++◌, length}
 use Rattle.directory.specs.Determined.{Tiles, one_suite}
 use Rattle.line.specs.Laws.{answer_kept}
-use Rattle.run.specs.Course.{lines_in, Course, run_of, finish_of}
+use Rattle.run.specs.Course.{lines_in, run_of, finish_of}
 use Rattle.run.specs.Lent.{course_in}
 use Rattle.run.specs.Answers.{answers_of, texts_of, whole_lines, Chunk, run_chunks, taken_of}
 use Rattle.run.specs.KeptLaws as kept

@@ -1,6 +1,7 @@
 // The line program over a text that comes in chunks of any size. The answers are the same however the text is cut, and a long
 // line needs no more memory than a short one.
 #![tactic(auto)]
+
 mod hold;
 mod lines;
 

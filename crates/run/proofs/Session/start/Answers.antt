@@ -1,7 +1,6 @@
 -- `run::Session::start`: zeros.
 use mathlib.Core.Path.{ap}
 use lib.ListN.{replicate}
-use borrow.Author.Rules.{rules}
 use Rattle.line.specs.declared.State.{State}
 use Rattle.run.proofs.Session.start.Goals as goal
 

@@ -1,9 +1,7 @@
 -- `run::hold::with_bytes`: a copy, byte by byte.
-use Prim.Native.Nat.{◌-◌}
 use native.Mathlib.Omega.{arith}
-use lib.ListN.{length}
 use borrow.Author.Rules.{rules}
-use Rattle.run.proofs.Holding.{Copied, begin, one_more, all-copied}
+use Rattle.run.proofs.Holding.{begin, one_more, all-copied}
 use Rattle.run.proofs.hold.with_bytes.Goals as goal
 
 pub loop-i-init : goal.loop-i-init

@@ -1,9 +1,7 @@
 -- `run::hold::with_bytes`: a copy, byte by byte.
 use Prim.Native.Nat.{◌-◌}
-use native.Mathlib.Omega.{arith}
 use lib.ListN.{length}
-use borrow.Author.Rules.{rules}
-use Rattle.run.proofs.Holding.{Copied, begin, one_more, all-copied}
+use Rattle.run.proofs.Holding.{Copied}
 use Rattle.run.proofs.hold.with_bytes.Given as goal
 
 abbrev pub invariant-loop-i : goal.invariant-loop-i

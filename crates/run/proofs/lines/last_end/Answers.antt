@@ -1,5 +1,5 @@
 -- `run::lines::last_end`: no newline is in the bytes passed.
-use Prim.Native.Nat.{ℕ, ◌+◌, ◌-◌, ◌≤◌}
+use Prim.Native.Nat.{ℕ, ◌+◌, ◌-◌}
 use mathlib.Core.Path.{◌≡◌, ◌∙◌, ap}
 use native.Mathlib.Omega.{arith}
 use lib.ListN.{length, drop}
@@ -18,13 +18,13 @@ bounds-text-i c = omega arith
 
 pub returns-then-text-i-eq10 : goal.returns-then-text-i-eq10
 returns-then-text-i-eq10 c =
-    let both = let l = c.loop-i in
-        let text = c.args.text.now in
-        let some = c.loop-i-test.true in (
-          λ at h. omega (arith, l.invariant, newline-ahead text _ at (omega arith) (omega (arith, l.invariant)) c.if-text-i-eq10.true),
-          λ at h k. omega (arith, l.invariant, end_at_lem text l.i at h (omega (arith, l.invariant))),
-        ) in
-    record { by_index = both.0; by_index_2 = both.1 }
+    let l = c.loop-i in
+    let text = c.args.text.now in
+    let some = c.loop-i-test.true in
+    record {
+      by_index = λ at h. omega (arith, l.invariant, newline-ahead text _ at (omega arith) (omega (arith, l.invariant)) c.if-text-i-eq10.true);
+      by_index_2 = λ at h k. omega (arith, l.invariant, end_at_lem text l.i at h (omega (arith, l.invariant)));
+    }
 
 pub overflow_sub-i-in-loop-i : goal.overflow_sub-i-in-loop-i
 overflow_sub-i-in-loop-i c = omega arith
@@ -43,9 +43,9 @@ loop-i-preserved c =
 
 pub returns : goal.returns
 returns c =
-    let both = let l = c.loop-i in
-        let text = c.args.text.now in (
-          λ at h. absurd (omega (arith, c.loop-i-test.false)),
-          λ at h k. omega (arith, l.invariant, end_at_lem text l.i at h (omega (arith, l.invariant))),
-        ) in
-    record { by_index = both.0; by_index_2 = both.1 }
+    let l = c.loop-i in
+    let text = c.args.text.now in
+    record {
+      by_index = λ at h. absurd (omega (arith, c.loop-i-test.false));
+      by_index_2 = λ at h k. omega (arith, l.invariant, end_at_lem text l.i at h (omega (arith, l.invariant)));
+    }

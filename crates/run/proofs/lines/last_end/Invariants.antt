@@ -1,10 +1,8 @@
 -- `run::lines::last_end`: no newline is in the bytes passed.
-use Prim.Native.Nat.{ℕ, ◌+◌, ◌-◌, ◌≤◌}
-use mathlib.Core.Path.{◌≡◌, ◌∙◌, ap}
-use native.Mathlib.Omega.{arith}
+use Prim.Native.Nat.{◌+◌, ◌≤◌}
+use mathlib.Core.Path.{◌≡◌}
 use lib.ListN.{length, drop}
 use Rattle.run.specs.Course.{end_in}
-use Rattle.run.proofs.Ends.{at_other, at_end_lem, end_at_lem, newline-ahead}
 use Rattle.run.proofs.lines.last_end.Given as goal
 
 abbrev pub invariant-loop-i : goal.invariant-loop-i

@@ -1,10 +1,8 @@
 -- `run::lines::line_end`: how far the next newline is from the place reached.
 use Prim.Native.Nat.{◌+◌, ◌<◌}
 use mathlib.Core.Path.{◌≡◌}
-use native.Mathlib.Omega.{arith}
 use lib.ListN.{length, drop}
 use Rattle.run.specs.Course.{end_in}
-use Rattle.run.proofs.Ends.{at_newline, passed, passed-two}
 use Rattle.run.proofs.lines.line_end.Given as goal
 
 abbrev pub invariant-loop-i : goal.invariant-loop-i

@@ -1,16 +1,15 @@
 -- `run::lines::rest`: what is said so far, joined to the run over the rest of the text, is the run over all of it.
 use mathlib.Core.Path.{◌≡◌, refl, ◌∙◌}
-use mathlib.Core.Logic.{⊎_elim}
 use Prim.Native.Nat.{◌-◌, ◌<◌, ◌≤◌}
 use native.Mathlib.Omega.{arith}
 use lib.ListN.{length, take, drop}
-use borrow.Author.Rules.{rules}
 use Rattle.line.specs.Standing.{answer_of}
 use Rattle.line.specs.Lent.{standing_in, answer_in}
 use Rattle.line.proofs.Answering.{when-made}
-use Rattle.run.proofs.Going.{Going, begin, stopped, exhausted, step}
+use Rattle.run.proofs.Going.{begin, stopped, exhausted, step}
 use Rattle.run.proofs.Steps.{idle-course, held-course, idle_tidy, hold_tidy, well-report, well-tidy}
 use Rattle.run.proofs.lines.rest.Goals as goal
+use Rattle.run.proofs.lines.rest.Goals.{then-state, else-state}
 use Rattle.run.proofs.lines.rest.Goals.{After-line_end-end, Joined-state}
 
 pub loop-at-init : goal.loop-at-init
@@ -24,23 +23,24 @@ shape_of-out-then-out-written-lt-LONGEST c = c.loop-at.invariant.long
 
 pub returns-then-out-written-lt-LONGEST : goal.returns-then-out-written-lt-LONGEST
 returns-then-out-written-lt-LONGEST c =
-    let both = let b = c.loop-at in
-        let h = c.last_end-last.ensures.0 b.at c.loop-at-test.true in
-        let r = stopped b.invariant _ refl h c.if-out-written-lt-LONGEST.true _ (idle-course b.lent _ _ c.idle.ensures) in (
-          well-report _ _ _ _ c.well.ensures b.lent ∙ r.0,
-          (r.1, well-tidy _ _ _ _ c.well.ensures (idle_tidy _ _ c.idle.ensures)),
-        ) in
-    record { lent_after = both.0; out_after = both.1; session_value = both.2 }
+    let b = c.loop-at in
+    let h = c.last_end-last.ensures.by_index b.at c.loop-at-test.true in
+    let r = stopped b.invariant _ refl h c.if-out-written-lt-LONGEST.true _ (idle-course b.lent _ _ c.idle.ensures) in
+    record {
+      lent_after = well-report _ _ _ _ c.well.ensures b.lent ∙ r.0;
+      out_after = r.1;
+      session_value = well-tidy _ _ _ _ c.well.ensures (idle_tidy _ _ c.idle.ensures);
+    }
 
 pub line_end-end-requires : goal.line_end-end-requires
-line_end-end-requires c = c.last_end-last.ensures.0 _ c.loop-at-test.true
+line_end-end-requires c = c.last_end-last.ensures.by_index _ c.loop-at-test.true
 
 -- the line that ends at the next newline
 ends-after : (c : After-line_end-end) → c.loop-at.at ≤ c.line_end-end.result
 ends-after c = omega (arith, c.line_end-end.ensures)
 
 ends-within : (c : After-line_end-end) → c.line_end-end.result < length c.args.text.now
-ends-within c = omega (arith, c.line_end-end.ensures, c.last_end-last.ensures.0 _ c.loop-at-test.true)
+ends-within c = omega (arith, c.line_end-end.ensures, c.last_end-last.ensures.by_index _ c.loop-at-test.true)
 
 pub slice_bounds-reply_unchecked-count : goal.slice_bounds-reply_unchecked-count
 slice_bounds-reply_unchecked-count c = ends-after (goal.at.slice_bounds-reply_unchecked-count c).After-line_end-end
@@ -68,11 +68,13 @@ answered : (c : Joined-state)
     (drop c.loop-at.at c.args.text.now))
 answered c =
     let b = c.loop-at in
-    ⊎_elim
-    (λ w. (λ j. answer_in (record { reply = w.7 j; state = w.5 j }) (w.6 j))
-    ∙ when-made _ b.lent w.4.last.1.0 b.state w.0.taken w.4.result w.4.ensures)
-    (λ w. (λ j. answer_in (record { reply = w.7 j; state = w.5 j }) (w.6 j)) ∙ w.3.ensures)
-    c.if-state.branch
+    elim c.if-state.branch [
+      | then-state w ↦
+          (λ j. answer_in (record { reply = w.reply-is j; state = w.state-is j }) (w.lent-is j))
+          ∙ when-made _ b.lent w.reply_unchecked-reply.new.lent b.state w.if-state.true w.reply_unchecked-reply.result w.reply_unchecked-reply.ensures
+      | else-state w ↦
+          (λ j. answer_in (record { reply = w.reply-is j; state = w.state-is j }) (w.lent-is j)) ∙ w.answer_unchecked-said.ensures
+    ]
 
 pub overflow_add-at : goal.overflow_add-at
 overflow_add-at c = omega (arith, ends-within (goal.at.overflow_add-at c).After-line_end-end)
@@ -84,7 +86,7 @@ loop-at-smaller c =
 pub loop-at-preserved : goal.loop-at-preserved
 loop-at-preserved c =
     step c.loop-at.invariant _ c.line_end-end.ensures (ends-within (goal.at.loop-at-preserved c).After-line_end-end) c.if-out-written-lt-LONGEST.false
-    (answer_in (record { reply = c.if-state.reply; state = c.if-state.state }) c.if-state.lent) (answered (goal.at.loop-at-preserved c).Joined-state) _ _ c.print-written.ensures.0 c.print-written.ensures.1
+    (answer_in (record { reply = c.if-state.reply; state = c.if-state.state }) c.if-state.lent) (answered (goal.at.loop-at-preserved c).Joined-state) _ _ c.print-written.ensures.value c.print-written.ensures.out_after
 
 pub slice_bounds-hold-count : goal.slice_bounds-hold-count
 slice_bounds-hold-count c = c.loop-at.invariant.place
@@ -97,10 +99,11 @@ shape_of-out c = c.loop-at.invariant.long
 
 pub returns : goal.returns
 returns c =
-    let both = let b = c.loop-at in
-        let h = c.last_end-last.ensures.1 b.at c.loop-at-test.false b.invariant.place in
-        let r = exhausted b.invariant h _ (held-course b.lent _ _ _ _ c.idle-2.ensures c.hold.ensures) in (
-          well-report _ _ _ _ c.well-2.ensures b.lent ∙ r.0,
-          (r.1, well-tidy _ _ _ _ c.well-2.ensures (hold_tidy _ c.idle-2.result _ c.hold.ensures)),
-        ) in
-    record { lent_after = both.0; out_after = both.1; session_value = both.2 }
+    let b = c.loop-at in
+    let h = c.last_end-last.ensures.by_index_2 b.at c.loop-at-test.false b.invariant.place in
+    let r = exhausted b.invariant h _ (held-course b.lent _ _ _ _ c.idle-2.ensures c.hold.ensures) in
+    record {
+      lent_after = well-report _ _ _ _ c.well-2.ensures b.lent ∙ r.0;
+      out_after = r.1;
+      session_value = well-tidy _ _ _ _ c.well-2.ensures (hold_tidy _ c.idle-2.result _ c.hold.ensures);
+    }
