@@ -6,8 +6,6 @@ use Rattle.bench.specs.Bench.{call_for}
 use Rattle.bench.proofs.Stepping.{call-1, call-2, call-3, numbered}
 use Rattle.bench.proofs.call.change.Goals as goal
 
--- what is left of 1 to 3
-
 pub returns-in-1 : goal.returns-in-1
 returns-in-1 c =
     let a = c.args in
