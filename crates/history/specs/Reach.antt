@@ -68,7 +68,7 @@ still_absent x d c (refused n) m a = a
 abbrev pub Absent : ℕ → Suite → Type 0
 Absent x t = (d : Directory) × Reached t d × (plain.present d x ≡ false)
 
-absent_since : {s t : Suite} {x : ℕ} → Absent x s → Since x s t → Absent x t
+absent_since : {x : ℕ} {s t : Suite} → Absent x s → Since x s t → Absent x t
 absent_since a now = a
 absent_since {x = x} a (then {t} l c n) = go (absent_since a l)
   where
