@@ -14,9 +14,10 @@ use Rattle.history.specs.Directory as plain
 use Rattle.history.specs.DirectoryLaws.{no_value}
 use Rattle.history.specs.Run.{follow, Reached, created, called, Step, call, load, run, Since}
 use Rattle.history.specs.Told.{refusal_of, read_refusal, flag, values_of, told_of}
-use Rattle.history.specs.ToldLaws.{values, refused-told, told-refused, answered-told, told-answered, absent_values, reading-refusal}
+use Rattle.history.proofs.ToldLaws.{values, refused-told, told-refused, answered-told, told-answered, absent_values, reading-refusal}
 use Rattle.history.specs.Asked.{Asks}
-use Rattle.history.specs.Reach.{as_told, is_sound, is_sized, removed_since, Absent, asks}
+use Rattle.history.specs.Reach.{Absent}
+use Rattle.history.proofs.Reach.{as_told, is_sound, is_sized, removed_since, asks}
 use Rattle.history.specs.Sized.{Sized}
 
 -- Each call on a suite so reached comes to what the plain directory that got the accepted changes, in order, makes of it:
