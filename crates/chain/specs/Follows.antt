@@ -11,9 +11,9 @@ use Rattle.history.specs.Directory.{Directory}
 use Rattle.history.specs.Run.{Reached, applied, follow}
 use Rattle.history.specs.Run as run
 use Rattle.history.specs.Told.{values_of, told_of}
-use Rattle.history.specs.ToldLaws.{values, refused-told}
-use Rattle.history.specs.Theorems.{faithful, reached_sound}
-use Rattle.history.specs.Images.{image_loads}
+use Rattle.history.proofs.ToldLaws.{values, refused-told}
+use Rattle.history.proofs.Theorems.{faithful, reached_sound}
+use Rattle.history.proofs.Images.{image_loads}
 use Rattle.chain.specs.Chain.{Asked, benched, called, Starts, Chained, started, went, told}
 use Rattle.chain.specs.Starts.{one_image_first}
 

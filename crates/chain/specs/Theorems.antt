@@ -11,7 +11,7 @@ use Rattle.bench.specs.Bench.{Stepped, numbers_of, bytes_of}
 use Rattle.history.specs.Directory.{Directory}
 use Rattle.history.specs.Run.{Reached, created}
 use Rattle.history.specs.Told.{values_of}
-use Rattle.history.specs.Images.{image_loads}
+use Rattle.history.proofs.Images.{image_loads}
 use Rattle.chain.specs.Chain.{Asked, benched, called, Starts, Chained, started, told, held}
 use Rattle.chain.specs.Starts.{one_image_first}
 use Rattle.chain.specs.Follows.{told_of_lem, accepted, Follows, follows, next_starts}

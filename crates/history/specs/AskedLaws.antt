@@ -54,8 +54,9 @@ askings_one q (suc i) k (m ∷ l) set h = go (eqb (set % 2) 1) (askings_one q i 
   where
     go : (t : Bool) → askings (suc k + i) (chosen (asked q (suc k) l) (set / 2)) ≡ flag (named (set / 2) i) →
         askings (k + suc i) (cond t (record { member = k; answer = answer_to q m } ∷ chosen (asked q (suc k) l) (set / 2)) (chosen (asked q (suc k) l) (set / 2))) ≡ flag (named (set / 2) i)
-    go true e = let at : suc k + i ≡ k + suc i = omega arith in rw (ne_eqb k (k + suc i) (λ w. omega arith), ← at) e
-    go false e = let at : suc k + i ≡ k + suc i = omega arith in rw (← at) e
+    go true e = let at : suc k + i ≡ k + suc i = omega arith in
+        rw (ne_eqb k (k + suc i) (λ w. omega arith)) (subst (λ n. askings n (chosen (asked q (suc k) l) (set / 2)) ≡ flag (named (set / 2) i)) at e)
+    go false e = let at : suc k + i ≡ k + suc i = omega arith in subst (λ n. askings n (chosen (asked q (suc k) l) (set / 2)) ≡ flag (named (set / 2) i)) at e
 
 module _ (s : Suite) (each : length (tiles s) ≡ length (ballots s)) (i : ℕ) where
   once : (set : ℕ) → exists (ballots s) set ≡ true → (q : Question) → askings i (asked_of s set q) ≡ flag (named set i)

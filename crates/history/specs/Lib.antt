@@ -1,14 +1,12 @@
--- Demand 3: sequences of calls against one plain directory. These say it:
+-- Demand 3: sequences of calls against one plain directory. These say it, and Theorems and Images of proofs/ are the theorems:
 pub mod Directory
 pub mod Run
 pub mod Told
 pub mod Asked
-pub mod Theorems
--- These prove it, in this order.
+-- These prove it, in this order, and the rest of proofs/.
 pub mod DirectoryLaws
 pub mod NamedLaws
 pub mod AskedLaws
-pub mod ToldLaws
 pub mod Picks
 pub mod Members
 pub mod Held
@@ -21,4 +19,3 @@ pub mod Goes
 pub mod Start
 pub mod Sized
 pub mod Reach
-pub mod Images

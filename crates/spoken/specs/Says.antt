@@ -28,9 +28,9 @@ use Rattle.history.specs.Directory as plain
 use Rattle.history.specs.Run.{Reached, called, applied, follow}
 use Rattle.history.specs.Run as run
 use Rattle.history.specs.Told.{own_refusal, limit_refusal, first, refusal_of, flag, values_of, told_of}
-use Rattle.history.specs.ToldLaws.{answered-told}
-use Rattle.history.specs.Goes.{first-zero}
-use Rattle.history.specs.Theorems.{faithful, reached_sound}
+use Rattle.history.proofs.ToldLaws.{answered-told}
+use Rattle.history.proofs.Goes.{first-zero}
+use Rattle.history.proofs.Theorems.{faithful, reached_sound}
 use Rattle.spoken.specs.Lines.{fresh, Lined, nothing, suited, told_on, told, next_on, next}
 
 -- A call on a suite that is reached.

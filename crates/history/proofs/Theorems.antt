@@ -12,11 +12,12 @@ use Rattle.suite.specs.declared.Suite.{Suite}
 use Rattle.history.specs.Directory.{Directory}
 use Rattle.history.specs.Directory as plain
 use Rattle.history.specs.DirectoryLaws.{no_value}
-use Rattle.history.specs.Run.{Reached, created, called, Step, call, load, run, Since}
+use Rattle.history.specs.Run.{follow, Reached, created, called, Step, call, load, run, Since}
 use Rattle.history.specs.Told.{refusal_of, read_refusal, flag, values_of, told_of}
-use Rattle.history.specs.ToldLaws.{values, refused-told, told-refused, answered-told, told-answered, absent_values, reading-refusal}
+use Rattle.history.proofs.ToldLaws.{values, refused-told, told-refused, answered-told, told-answered, absent_values, reading-refusal}
 use Rattle.history.specs.Asked.{Asks}
-use Rattle.history.specs.Reach.{as_told, is_sound, is_sized, removed_since, Absent, asks}
+use Rattle.history.specs.Reach.{Absent}
+use Rattle.history.proofs.Reach.{as_told, is_sound, is_sized, removed_since, asks}
 use Rattle.history.specs.Sized.{Sized}
 
 -- Each call on a suite so reached comes to what the plain directory that got the accepted changes, in order, makes of it:
@@ -29,8 +30,9 @@ pub run_faithful : {s : Suite} {d : Directory} → Reached s d → (l : List Ste
     Each (λ t. t.outcome ≡ told_of t.suite t.directory t.asked) (run s d l)
 unfolding run
 run_faithful p [] = tt
-run_faithful p (call c ∷ l) = (faithful p c, run_faithful (called p c) l)
-run_faithful p (load s d q ∷ l) = run_faithful q l
+run_faithful {s = s} {d = d} p (call c ∷ l) =
+    (faithful p c, run_faithful {s = (call_of s c).suite} {d = follow d c (call_of s c).outcome} (called p c) l)
+run_faithful p (load s d q ∷ l) = run_faithful {s = s} {d = d} q l
 
 -- above all from a suite created with any accepted R, W and votes, with the empty directory.
 pub from_creation : (r w : ℕ) (votes : List ℕ) → (create_of r w votes).outcome ≡ answered [] → (l : List Step) →

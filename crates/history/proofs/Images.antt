@@ -9,7 +9,7 @@ use Rattle.image.proofs.RoundTrip.{read_written}
 use Rattle.history.specs.Directory.{Directory}
 use Rattle.history.specs.Run.{Reached}
 use Rattle.history.specs.Run as run
-use Rattle.history.specs.Theorems.{reached_sound}
+use Rattle.history.proofs.Theorems.{reached_sound}
 
 pub image_loads : {s : Suite} {d : Directory} → Reached s d → read_image (image_of s) ≡ loaded s
 image_loads {s} p = let r = reached_sound p in read_written s r.0 r.1
