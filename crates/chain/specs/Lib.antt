@@ -1,6 +1,3 @@
--- Demand 3 for the bench call. These say it:
+-- Demand 3 for the bench call: what its theorems (proofs/Theorems) speak of.
 pub mod Chain
-pub mod Theorems
--- These prove it, in this order.
-pub mod Starts
 pub mod Follows

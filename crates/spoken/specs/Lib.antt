@@ -1,5 +1,3 @@
--- Demand 3 for the line program. These say it:
+-- Demand 3 for the line program: what its theorems (proofs/Theorems) speak of.
 pub mod Lines
-pub mod Theorems
--- This proves it.
 pub mod Says

@@ -13,7 +13,8 @@ use Rattle.line.specs.Lent.{standing_in, fresh_state}
 use Rattle.history.specs.Directory.{Directory}
 use Rattle.history.specs.Directory as plain
 use Rattle.spoken.specs.Lines.{Lined, nothing, told, next, replies, standing_after, tells, directory_after}
-use Rattle.spoken.specs.Says.{SaysOf, says, as_told, stays_lined}
+use Rattle.spoken.specs.Says.{SaysOf}
+use Rattle.spoken.proofs.Says.{says, as_told, stays_lined}
 
 -- Whatever lines have come to, the next line, accepted or refused, understood or not, is answered as that plain directory tells,
 -- and what stands after it goes with the directory that got its change.
@@ -25,13 +26,14 @@ line_faithful p line = (as_told p line, stays_lined p line)
 pub lines_lined : {t : Standing} {d : Directory} → Lined t d → (l : List (List ℕ)) → Lined (standing_after t l) (directory_after t d l)
 unfolding standing_after directory_after
 lines_lined p [] = p
-lines_lined p (line ∷ l) = lines_lined (line_faithful p line).1 l
+lines_lined {t = t} {d = d} p (line ∷ l) = lines_lined {t = (answer_of t line).standing} {d = next t d line} (line_faithful p line).1 l
 
 -- and the whole list of answers is the one that the plain directory tells,
 pub lines_faithful : {t : Standing} {d : Directory} → Lined t d → (l : List (List ℕ)) → replies t l ≡ tells t d l
 unfolding replies tells
 lines_faithful p [] = refl
-lines_faithful p (line ∷ l) = let r = line_faithful p line in λ j. r.0 j ∷ lines_faithful r.1 l j
+lines_faithful {t = t} {d = d} p (line ∷ l) =
+    let r = line_faithful p line in λ j. r.0 j ∷ lines_faithful {t = (answer_of t line).standing} {d = next t d line} r.1 l j
 
 -- above all from the beginning (`State::fresh`), whatever lies in the lent tiles, with the empty directory.
 pub from_beginning : (lent l : List (List ℕ)) → replies (standing_in fresh_state lent) l ≡ tells (standing_in fresh_state lent) [] l

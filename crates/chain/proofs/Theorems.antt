@@ -13,8 +13,9 @@ use Rattle.history.specs.Run.{Reached, created}
 use Rattle.history.specs.Told.{values_of}
 use Rattle.history.proofs.Images.{image_loads}
 use Rattle.chain.specs.Chain.{Asked, benched, called, Starts, Chained, started, told, held}
-use Rattle.chain.specs.Starts.{one_image_first}
-use Rattle.chain.specs.Follows.{told_of_lem, accepted, Follows, follows, next_starts}
+use Rattle.chain.proofs.Starts.{one_image_first}
+use Rattle.chain.specs.Follows.{Follows}
+use Rattle.chain.proofs.Follows.{told_of_lem, accepted, follows, next_starts}
 
 -- A chain may start from the image of any created suite, with the empty directory.
 pub from_creation : (r w : ℕ) (votes : List ℕ) → (create_of r w votes).outcome ≡ answered [] → Chained (image_of (create_of r w votes).suite) []
