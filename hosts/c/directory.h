@@ -52,7 +52,7 @@ enum {
 
     /* Bytes of stack that a call needs, the caller's frame and what a signal handler takes not counted. Measured, not
      * proved: hosts/c/run paints a thread's stack, makes every kind of call on it and looks how far down it was changed.
-     * That was 10,680 bytes when this was written. It fails where it finds less than 4,096 bytes to spare. */
+     * That was 10,744 bytes when this was written. It fails where it finds less than 4,096 bytes to spare. */
     DIRECTORY_STACK = 20480
 };
 
