@@ -27,25 +27,25 @@ bytes-in c = below_of_lem 256 c.args.image.now (λ i k. omega (arith, c.type_inv
 pub returns-then-answer-lt16 : goal.returns-then-answer-lt16
 returns-then-answer-lt16 c =
     let a = c.args in
-    no_room a.operation a.read a.write a.name a.value a.image.now a.out.now a.answer.now c.number.result c.requires c.if-answer-lt16.true c.number.ensures
+    no_room a.operation a.read a.write a.name a.value a.image.now a.out.now a.answer.now c.number.result c.requires (omega arith) c.number.ensures
 
 pub returns-in-No : goal.returns-in-No
 returns-in-No c =
     let a = c.args in
     let r = c.read-loaded in
-    not-loaded a.operation a.read a.write a.name a.value a.image.now a.out.now a.answer.now (number_of c.in-No.refusal) c.number-in-No.result c.requires c.if-answer-lt16.false
+    not-loaded a.operation a.read a.write a.name a.value a.image.now a.out.now a.answer.now (number_of c.in-No.refusal) c.number-in-No.result c.requires (omega arith)
     (outcome-read a.image.now _ _ (sym (ap (λ (l : Loading). loaded_in (record { answer = l; frame = r.result.frame }) r.new.lent) c.in-No.is) ∙ r.ensures))
     c.number-in-No.ensures
 
 pub call-requires : goal.call-requires
 call-requires c =
     let r = c.read-loaded in
-    (c.if-answer-lt16.false, written_read c.args.image.now (suite_in r.result.frame r.new.lent) (bytes-in (goal.at.call-requires c).In_default) (read-in (goal.at.call-requires c).In_default))
+    (omega arith, written_read c.args.image.now (suite_in r.result.frame r.new.lent) (bytes-in (goal.at.call-requires c).In_default) (read-in (goal.at.call-requires c).In_default))
 
 pub returns : goal.returns
 returns c =
     let a = c.args in
     let r = c.read-loaded in
     let k = c.call in
-    loads a.operation a.read a.write a.name a.value a.image.now a.out.now a.answer.now (suite_in r.result.frame r.new.lent) (stepped k.result k.new.out k.new.answer) c.requires c.if-answer-lt16.false (read-in (goal.at.returns c).In_default)
+    loads a.operation a.read a.write a.name a.value a.image.now a.out.now a.answer.now (suite_in r.result.frame r.new.lent) (stepped k.result k.new.out k.new.answer) c.requires (omega arith) (read-in (goal.at.returns c).In_default)
     k.ensures

@@ -25,7 +25,7 @@ pub returns-then-out-written-lt-LONGEST : goal.returns-then-out-written-lt-LONGE
 returns-then-out-written-lt-LONGEST c =
     let b = c.loop-at in
     let h = c.last_end-last.ensures.by_index b.at c.loop-at-test.true in
-    let r = stopped b.invariant _ refl h c.if-out-written-lt-LONGEST.true _ (idle-course b.lent _ _ c.idle.ensures) in
+    let r = stopped b.invariant _ refl h (omega arith) _ (idle-course b.lent _ _ c.idle.ensures) in
     record {
       lent_after = well-report _ _ _ _ c.well.ensures b.lent ∙ r.0;
       out_after = r.1;
@@ -85,7 +85,7 @@ loop-at-smaller c =
 
 pub loop-at-preserved : goal.loop-at-preserved
 loop-at-preserved c =
-    step c.loop-at.invariant _ c.line_end-end.ensures (ends-within (goal.at.loop-at-preserved c).After-line_end-end) c.if-out-written-lt-LONGEST.false
+    step c.loop-at.invariant _ c.line_end-end.ensures (ends-within (goal.at.loop-at-preserved c).After-line_end-end) (omega arith)
     (answer_in (record { reply = c.if-state.reply; state = c.if-state.state }) c.if-state.lent) (answered (goal.at.loop-at-preserved c).Joined-state) _ _ c.print-written.ensures.value c.print-written.ensures.out_after
 
 pub slice_bounds-hold-count : goal.slice_bounds-hold-count
