@@ -1,4 +1,4 @@
--- Every change keeps the invariant: one theorem, over what a change does at each place.
+-- What a change does at each place. That every change keeps the invariant is the theorem of proofs/Change.
 use Rattle.std.specs.Prelude.{ℕ, suc, ◌≤◌, ◌<◌, ◌≡◌, ◌⊎◌, Bool}
 use Rattle.ideal.specs.Tiles.{version, IsGap, Tile}
 use Rattle.ideal.specs.Votes.{In}

@@ -1,4 +1,5 @@
--- The theory behind the directory: why what a read set shows is what was written. Read in this order.
+-- The theory behind the directory: what it speaks of, with its first laws, in the order in which they are to be read. The
+-- theorems, why what a read set shows is what was written, are in proofs/.
 pub mod Places
 pub mod Tiles
 pub mod Votes

@@ -1,4 +1,4 @@
--- Neighbours: what the two rounds find below x is A's predecessor of x, with A's own version and value.
+-- Neighbours: what the two rounds are, and what they are to find. That they find it is the theorem of proofs/Neighbours.
 use Rattle.std.specs.Prelude.{ℕ, ◌<◌, ◌≡◌, Bool}
 use Rattle.member.specs.declared.Reading.{Reading}
 use Rattle.ideal.specs.Tiles.{version, Tile}

@@ -1,2 +1,2 @@
-// A run of command lines against one plain directory. Nothing here runs; the definitions and theorems are in specs/.
+// A run of command lines against one plain directory. Nothing here runs; the definitions are in specs/, the theorems in proofs/.
 #![tactic(auto)]
