@@ -1,27 +1,29 @@
 -- The steps of a bench call, in the paper's order: what each of them comes to.
 -- Assumes nothing.
-use Prim.Native.Nat.{ℕ, ◌≤◌, ◌<◌}
-use mathlib.Core.Bool.{Bool, true, false, cond}
-use mathlib.Core.Path.{◌≡◌, refl, sym, ap, ap₂, ◌∙◌}
-use mathlib.Core.List.{List, [], ◌∷◌, ◌++◌, map}
-use lib.ListN.{length, drop}
-use lib.Dec.{leb}
-use borrow.Author.Tests.{lt-ltb, le-ltb, ne_eqb}
+use Rattle.std.proofs.Common.{◌≡◌, refl, sym, ap, ◌∙◌, ℕ, ◌≤◌, ◌<◌, Bool, true, false, cond, List, [], ◌∷◌, ◌++◌, length, drop, leb, lt-ltb, le-ltb, arith}
+use Rattle.std.specs.Prelude as prelude
+use Rattle.std.specs.Prelude.{Ok, Err}
+use Rattle.std.specs.Result.{IsErrAnd}
+use Rattle.std.proofs.lemmas.Result.{err_from_is_err_and}
 use Rattle.member.specs.declared.Reading.{Reading}
 use Rattle.member.specs.declared.Reading.TheVariants.{Entry, Gap}
-use Rattle.suite.specs.Suite.{frame_of}
-use Rattle.suite.specs.Outcome.{Outcome, answered, refused, reading_values}
+use Rattle.suite.specs.Outcome.{Outcome, answered, refused, number_of, reading_values}
 use Rattle.suite.specs.OutcomeLaws.{refused_is, not_both}
 use Rattle.suite.specs.Calls.{Call, lookup, insert, update, remove, neighbours, Result, write_set, step_of}
 use Rattle.suite.specs.Agree.{step_reads}
 use Rattle.suite.specs.declared.Suite.{Suite}
-use Rattle.suite.specs.declared.Frame.{Frame}
-use Rattle.tile.specs.Lent.{tile_in}
-use Rattle.directory.specs.Lent.{suite_in}
+use Rattle.suite.specs.declared.Refusal.{Refusal}
 use Rattle.image.specs.Layout.{image_of}
-use Rattle.image.specs.Reader.{loaded, read_image, Load, no_frame, load_of}
+use Rattle.image.specs.Reader.{loaded, read_image, load_of}
 use Rattle.image.specs.Writer.{Lent, untouched, fill_of}
-use Rattle.bench.specs.Bench.{Stepped, stepped, call_for, numbers_of, bytes_of, filled, settled, carried, admitted, bench_of}
+use Rattle.bench.specs.Bench.{Stepped, stepped, status_of, call_for, numbers_of, bytes_of, filled, settled, carried, admitted, bench_of}
+use Rattle.bench.specs.Bench as bench
+use Rattle.bench.specs.declared.operation.Operation.{Operation}
+use Rattle.bench.specs.declared.operation.Operation.TheVariants.{Lookup, Insert, Update, Remove, Neighbours}
+
+-- a result that is this refusal
+pub status-err : (r : prelude.Result Unit Refusal) (e : Refusal) → IsErrAnd r (λ y. y ≡ e) → status_of r ≡ number_of e
+status-err r e h = let p = err_from_is_err_and r h in ap status_of p.1 ∙ ap number_of p.2
 
 -- ---- image out and the answer
 
@@ -37,7 +39,8 @@ module _ (numbers image out answer : List ℕ) where
           ≡ cond b (stepped 0 (image ++ drop (length image) out) (bytes_of numbers ++ drop 16 answer)) (stepped 19 out answer)
       go true e = not_both (length image ∷ []) n (sym (ap (λ (l : Lent). l.outcome) e))
       go false e =
-          ap₂ (λ (k : ℕ) (l : List ℕ). stepped k l answer) (refused_is n 19 (ap (λ (l : Lent). l.outcome) e)) (ap (λ (l : Lent). l.bytes) e)
+          let code = refused_is n 19 (ap (λ (l : Lent). l.outcome) e) in
+          λ j. stepped (code j) (e j).bytes answer
 
   pub fill-written : (vs after : List ℕ) → record { outcome = answered vs; bytes = after } ≡ fill_of image out
       → stepped 0 after (bytes_of numbers ++ drop 16 answer) ≡ filled numbers image out answer
@@ -51,127 +54,120 @@ module _ (numbers image out answer : List ℕ) where
       go true e = ap (λ (l : Lent). stepped 0 l.bytes (bytes_of numbers ++ drop 16 answer)) e
       go false e = not_both vs 19 (ap (λ (l : Lent). l.outcome) e)
 
--- the operation's own refusal
-pub settle_refused : (o : Outcome) (n k : ℕ) (image out answer : List ℕ) → o ≡ refused k → n ≡ k
-    → stepped n out answer ≡ settled o image out answer
-settle_refused o n k image out answer e f = rw (e, f)
-
--- or its answer
-pub settle_answered : (o : Outcome) (t : Stepped) (numbers vs image out answer : List ℕ) → o ≡ answered vs → numbers ≡ numbers_of vs
-    → t ≡ filled numbers image out answer
-    → t ≡ settled o image out answer
-settle_answered o t numbers vs image out answer e f g = rw e (g ∙ ap (λ (l : List ℕ). filled l image out answer) f)
-
 -- a reading's values are four
-pub numbers-reading : (r : Reading) (q : ℕ) → numbers_of (reading_values r q) ≡ reading_values r q
+pub numbers-reading : (r : Reading) (q : ℕ) → reading_values r q ≡ numbers_of (reading_values r q)
 unfolding numbers_of
 numbers-reading (Entry v x) q = refl
 numbers-reading (Gap v) q = refl
 
--- ---- the call that an operation's number stands for
-
-module _ (n rs ws x v : ℕ) where
-  pub call-0 : n ≡ 0 → call_for n rs ws x v ≡ lookup rs x
-  unfolding call_for
-  call-0 e = rw e
-
-  pub call-1 : n ≡ 1 → call_for n rs ws x v ≡ insert rs ws x v
-  unfolding call_for
-  call-1 e = rw e
-
-  pub call-2 : n ≡ 2 → call_for n rs ws x v ≡ update rs ws x v
-  unfolding call_for
-  call-2 e = rw e
-
-  pub call-3 : n ≡ 3 → call_for n rs ws x v ≡ remove rs ws x
-  unfolding call_for
-  call-3 e = rw e
-
-  pub call-4 : (n ≡ 0 → ⊥) → (n ≡ 1 → ⊥) → (n ≡ 2 → ⊥) → (n ≡ 3 → ⊥) → call_for n rs ws x v ≡ neighbours rs x
-  unfolding call_for
-  call-4 a b c d = rw (ne_eqb n 0 a, ne_eqb n 1 b, ne_eqb n 2 c, ne_eqb n 3 d)
-
 -- ---- the refusals before the call, in their order
 
 module _ (n rs ws x v : ℕ) (image out answer : List ℕ) where
-  pub not-understood : (k : ℕ) → 4 < n → k ≡ 14 → stepped k out answer ≡ bench_of n rs ws x v image out answer
+  pub not-understood : 4 < n → stepped 14 out answer ≡ bench_of n rs ws x v image out answer
   unfolding bench_of admitted
-  not-understood k h e = rw (lt-ltb 4 n h, e)
+  not-understood h = rw (lt-ltb 4 n h)
 
-  pub no_room : (k : ℕ) → n ≤ 4 → length answer < 16 → k ≡ 19 → stepped k out answer ≡ bench_of n rs ws x v image out answer
-  unfolding bench_of admitted
-  no_room k u h e = rw (le-ltb 4 n u, lt-ltb (length answer) 16 h, e)
+  module _ (u : n ≤ 4) where
+    pub no_room : length answer < 16 → stepped 19 out answer ≡ bench_of n rs ws x v image out answer
+    unfolding bench_of admitted
+    no_room h = rw (le-ltb 4 n u, lt-ltb (length answer) 16 h)
 
-  pub not-loaded : (k m : ℕ) → n ≤ 4 → 16 ≤ length answer → (read_image image).outcome ≡ refused k → m ≡ k
-      → stepped m out answer ≡ bench_of n rs ws x v image out answer
-  unfolding bench_of admitted
-  not-loaded k m u h e f = rw (le-ltb 4 n u, le-ltb (length answer) 16 h, e, f)
+    module _ (h : 16 ≤ length answer) where
+      pub not-loaded : (k : ℕ) → (read_image image).outcome ≡ refused k → stepped k out answer ≡ bench_of n rs ws x v image out answer
+      unfolding bench_of admitted
+      not-loaded k e = rw (le-ltb 4 n u, le-ltb (length answer) 16 h, e)
 
-  -- and else the call on the suite that was read
-  pub loads : (s : Suite) (t : Stepped) → n ≤ 4 → 16 ≤ length answer → read_image image ≡ loaded s
-      → t ≡ carried (answered []) s (call_for n rs ws x v) out answer
-      → t ≡ bench_of n rs ws x v image out answer
-  unfolding bench_of admitted
-  loads s t u h e g = rw (le-ltb 4 n u, le-ltb (length answer) 16 h, e) g
+      -- and else the call on the suite that was read
+      pub loads : (s : Suite) (t : Stepped) → read_image image ≡ loaded s → t ≡ carried (answered []) s (call_for n rs ws x v) out answer
+          → t ≡ bench_of n rs ws x v image out answer
+      unfolding bench_of admitted
+      loads s t e g = rw (le-ltb 4 n u, le-ltb (length answer) 16 h, e) g
 
 -- ---- the suite that was read
 
-module _ (image : List ℕ) (lent : List (List ℕ)) where
+module _ (image : List ℕ) (before : Suite) where
   load-answered : (vs : List ℕ) → (read_image image).outcome ≡ answered vs
-      → load_of image lent ≡ record { outcome = answered vs; frame = frame_of (read_image image).suite; members = (read_image image).suite.members }
+      → load_of image before ≡ record { outcome = answered vs; suite = (read_image image).suite }
   unfolding load_of
   load-answered vs e = rw e
 
-  load-refused : (n : ℕ) → (read_image image).outcome ≡ refused n
-      → load_of image lent ≡ record { outcome = refused n; frame = no_frame; members = map tile_in lent }
+  load-refused : (n : ℕ) → (read_image image).outcome ≡ refused n → load_of image before ≡ record { outcome = refused n; suite = before }
   unfolding load_of
   load-refused n e = rw e
 
   -- what loading comes to is what reading the image comes to
-  pub outcome-read : (l : Load) → l ≡ load_of image lent → (read_image image).outcome ≡ l.outcome
+  pub outcome-read : (l : Result) → l ≡ load_of image before → (read_image image).outcome ≡ l.outcome
   outcome-read l e = go (read_image image).outcome refl
     where
       go : (o : Outcome) → (read_image image).outcome ≡ o → (read_image image).outcome ≡ l.outcome
-      go (answered vs) i = i ∙ sym (ap (λ (k : Load). k.outcome) (e ∙ load-answered vs i))
-      go (refused n) i = i ∙ sym (ap (λ (k : Load). k.outcome) (e ∙ load-refused n i))
+      go (answered vs) i = i ∙ sym (ap (λ (k : Result). k.outcome) (e ∙ load-answered vs i))
+      go (refused n) i = i ∙ sym (ap (λ (k : Result). k.outcome) (e ∙ load-refused n i))
 
-  -- the suite of this frame in the tiles
-  pub suite-read : (f : Frame) (after : List (List ℕ))
-      → record { outcome = answered []; frame = f; members = map tile_in after } ≡ load_of image lent
-      → read_image image ≡ loaded (suite_in f after)
-  suite-read f after e =
-      let o = outcome-read (record { outcome = answered []; frame = f; members = map tile_in after }) e in
-      ap₂ (λ (p : Outcome) (s : Suite). record { outcome = p; suite = s }) o
-      (sym (ap suite_loaded (e ∙ load-answered [] o)))
-    where
-      suite_loaded : Load → Suite
-      suite_loaded l =
-          record {
-            members = l.members;
-            votes = l.frame.votes;
-            read = l.frame.read;
-            write = l.frame.write;
-            count = l.frame.count;
-          }
+  pub suite-read : (s : Suite) → loaded s ≡ load_of image before → read_image image ≡ loaded s
+  suite-read s e =
+      let o = outcome-read (loaded s) e in
+      let same = ap (λ (k : Result). k.suite) (e ∙ load-answered [] o) in
+      λ j. record { outcome = o j; suite = sym same j }
 
 -- ---- the call
 
--- under its operation's number
-pub numbered : (s : Suite) (c d : Call) (r : Result) → c ≡ d → r ≡ step_of s d → r ≡ step_of s c
-numbered s c d r i f = f ∙ ap (step_of s) (sym i)
+-- the call that an operation stands for
+abbrev pub called : Operation → ℕ → ℕ → ℕ → ℕ → Call
+called Lookup rs ws x v = lookup rs x
+called Insert rs ws x v = insert rs ws x v
+called Update rs ws x v = update rs ws x v
+called Remove rs ws x v = remove rs ws x
+called Neighbours rs ws x v = neighbours rs x
 
-module _ (s : Suite) (out answer : List ℕ) where
-  -- one that changes the suite
-  pub changing : (c : Call) (r : Result) (t : Stepped) → r ≡ step_of s c → t ≡ settled r.outcome (image_of r.suite) out answer
-      → t ≡ carried (answered []) s c out answer
-  changing c r t f g = g ∙ ap (λ (q : Result). settled q.outcome (image_of q.suite) out answer) f
+called_is : (o : Operation) (rs ws x v : ℕ) → call_for (bench.number_of o) rs ws x v ≡ called o rs ws x v
+unfolding call_for
+called_is Lookup rs ws x v = refl
+called_is Insert rs ws x v = refl
+called_is Update rs ws x v = refl
+called_is Remove rs ws x v = refl
+called_is Neighbours rs ws x v = refl
 
-  -- One without a write set leaves the suite, so the image that was read is the one to write.
-  pub asking : (c d : Call) (o : Outcome) (t : Stepped) (image : List ℕ) → c ≡ d → write_set d ≡ 0 → o ≡ (step_of s d).outcome
-      → image ≡ image_of s
-      → t ≡ settled o image out answer
-      → t ≡ carried (answered []) s c out answer
-  asking c d o t image i w f e g =
-      g
-      ∙ ap₂ (λ (p : Outcome) (l : List ℕ). settled p l out answer) f (e ∙ ap image_of (sym (step_reads s d w)))
-      ∙ ap (λ (q : Call). settled (step_of s q).outcome (image_of (step_of s q).suite) out answer) (sym i)
+pub upto_4 : (o : Operation) → bench.number_of o ≤ 4
+upto_4 Lookup = omega arith
+upto_4 Insert = omega arith
+upto_4 Update = omega arith
+upto_4 Remove = omega arith
+upto_4 Neighbours = omega arith
+
+module _ (s : Suite) (rs ws x v : ℕ) (out answer : List ℕ) (o p : Operation) (i : o ≡ p) where
+  carried-by : carried (answered []) s (called p rs ws x v) out answer
+      ≡ carried (answered []) s (call_for (bench.number_of o) rs ws x v) out answer
+  carried-by =
+      ap (λ (c : Call). carried (answered []) s c out answer)
+      (sym (called_is o rs ws x v ∙ ap (λ (q : Operation). called q rs ws x v) i))
+
+  -- its own refusal
+  pub refusing : (r : prelude.Result Unit Refusal) (e : Refusal) → IsErrAnd r (λ y. y ≡ e)
+      → refused (number_of e) ≡ (step_of s (called p rs ws x v)).outcome
+      → stepped (status_of r) out answer ≡ carried (answered []) s (call_for (bench.number_of o) rs ws x v) out answer
+  refusing r e h f =
+      ap (λ (n : ℕ). stepped n out answer) (status-err r e h)
+      ∙ ap (λ (q : Outcome). settled q (image_of (step_of s (called p rs ws x v)).suite) out answer) f
+      ∙ carried-by
+
+  module _ (vs numbers : List ℕ) (t : Stepped) (is : numbers ≡ numbers_of vs) where
+    -- one that changes the suite
+    pub changing : (after : Suite) → record { outcome = answered vs; suite = after } ≡ step_of s (called p rs ws x v)
+        → t ≡ filled numbers (image_of after) out answer
+        → t ≡ carried (answered []) s (call_for (bench.number_of o) rs ws x v) out answer
+    changing after f g =
+        g
+        ∙ ap (λ (l : List ℕ). filled l (image_of after) out answer) is
+        ∙ ap (λ (q : Result). settled q.outcome (image_of q.suite) out answer) f
+        ∙ carried-by
+
+    -- One without a write set leaves the suite, so the image that was read is the one to write.
+    pub asking : (image : List ℕ) → write_set (called p rs ws x v) ≡ 0 → answered vs ≡ (step_of s (called p rs ws x v)).outcome
+        → image ≡ image_of s → t ≡ filled numbers image out answer
+        → t ≡ carried (answered []) s (call_for (bench.number_of o) rs ws x v) out answer
+    asking image w f e g =
+        let same = e ∙ ap image_of (sym (step_reads s (called p rs ws x v) w)) in
+        g
+        ∙ ap (λ (l : List ℕ). filled l image out answer) is
+        ∙ (λ j. settled (f j) (same j) out answer)
+        ∙ carried-by

@@ -1,10 +1,13 @@
 -- The rules paper, "Bench call": what it returns, and what stands afterwards in the bytes that the bench lends.
-use Rattle.std.specs.Prelude.{List, [], ◌∷◌, ◌++◌, cond, ℕ, ◌/◌, ◌%◌, ◌^◌, length, take, drop, replicate, leb, ltb, eqb}
-use Rattle.suite.specs.Outcome.{Outcome, answered, refused}
+use Rattle.std.specs.Prelude.{List, [], ◌∷◌, ◌++◌, cond, ℕ, ◌/◌, ◌%◌, ◌^◌, length, take, drop, replicate, leb, ltb, eqb, Result}
+use Rattle.suite.specs.Outcome.{Outcome, answered, refused, judged_of}
 use Rattle.suite.specs.Calls.{Call, lookup, insert, update, remove, neighbours, step_of}
 use Rattle.suite.specs.declared.Suite.{Suite}
+use Rattle.suite.specs.declared.Refusal.{Refusal}
 use Rattle.image.specs.Layout.{image_of}
 use Rattle.image.specs.Reader.{read_image}
+use Rattle.bench.specs.declared.operation.Operation.{Operation}
+use Rattle.bench.specs.declared.operation.Operation.TheVariants.{Lookup, Insert, Update, Remove, Neighbours}
 
 -- It returns 0 or the refusal; and image out and the answer as they stand afterwards.
 pub record Stepped : Type 0 where
@@ -14,6 +17,17 @@ pub record Stepped : Type 0 where
 
 abbrev pub stepped : ℕ → List ℕ → List ℕ → Stepped
 stepped code out answer = record { code = code; out = out; answer = answer }
+
+-- 0, or the refusal's number
+abbrev pub status_of : Result Unit Refusal → ℕ
+status_of r = judged_of r
+
+abbrev pub number_of : Operation → ℕ
+number_of Lookup = 0
+number_of Insert = 1
+number_of Update = 2
+number_of Remove = 3
+number_of Neighbours = 4
 
 -- Operation number: 0 lookup, 1 insert, 2 update, 3 remove, 4 neighbours. Arguments an operation lacks are ignored.
 unfoldable pub call_for : ℕ → ℕ → ℕ → ℕ → ℕ → Call

@@ -1,12 +1,15 @@
-// The bench call: one call on the directory, over the bytes that the simulation bench lends.
+// The bench call: one call on the suite, over the bytes that the simulation bench lends.
 #![tactic(auto)]
 
 mod answer;
 mod call;
+mod operation;
 
 ghost use Rattle.std.specs.Prelude.{◌≡◌};
-ghost use Rattle.bench.specs.Bench.{stepped, bench_of};
+ghost use Rattle.bench.specs.Bench.{status_of, stepped, bench_of};
 
+use call::Arguments;
+pub use operation::Operation;
 use suite::Refusal;
 
 // `image` is image in and `out` image out. Each refusal leaves `out` and `answer` as they were.
@@ -19,12 +22,16 @@ pub fn directory_step(
     image: &[u8],
     out: &mut [u8],
     answer: &mut [u8],
-) -> u32
-    ensures { stepped result out.new answer.new
+) -> Result<(), Refusal>
+    ensures { stepped (status_of result) out.new answer.new
         ≡ bench_of operation read write name value image.now out.old answer.old }
 {
-    match operation {
-        0..=4 => call::carry_out(operation, read, write, name, value, image, out, answer),
-        _ => Refusal::NotUnderstood.number(),
-    }
+    let operation = Operation::try_from(operation)?;
+    let arguments = Arguments {
+        read,
+        write,
+        name,
+        value,
+    };
+    call::carry_out(operation, arguments, image, out, answer)
 }

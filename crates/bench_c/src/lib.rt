@@ -5,7 +5,7 @@
 ghost use Rattle.std.specs.Prelude.{◌≡◌};
 ghost use Rattle.bench.specs.Bench.{stepped, bench_of};
 
-// `bench::directory_step`, with its clauses.
+// `bench::directory_step`, with its clauses: 0, or the number of the refusal.
 #[unsafe(no_mangle)]
 pub extern "C" fn directory_step(
     operation: u32,
@@ -20,5 +20,8 @@ pub extern "C" fn directory_step(
     ensures { stepped result out.new answer.new
         ≡ bench_of operation read write name value image.now out.old answer.old }
 {
-    bench::directory_step(operation, read, write, name, value, image, out, answer)
+    match bench::directory_step(operation, read, write, name, value, image, out, answer) {
+        Ok(()) => 0,
+        Err(refusal) => refusal.number(),
+    }
 }

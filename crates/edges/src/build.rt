@@ -26,36 +26,29 @@ pub(crate) fn holding_five(below: u32, version: u32, above: u32) -> Member {
     })
 }
 
-fn insert_all(s: Suite, read: u32, even: u32, odd: u32, many: u32) -> Suite {
-    let mut filled = s;
-    let mut left = many;
-    while 0 < left {
-        let set = if left % 2 == 0 { even } else { odd };
-        let done = filled.insert(read, set, left, 7);
-        filled = done.suite;
-        left -= 1;
-    }
-    filled
-}
-
 // The names from `many` down to 1, the even ones to one write set and the odd ones to the other.
 pub(crate) fn fill(
     rt: &impl Print,
-    s: Suite,
+    s: &mut Suite,
     read: u32,
     even: u32,
     odd: u32,
     many: u32,
-) -> io::Result<Suite> {
+) -> io::Result<()> {
     println!(rt; "fill {read} {even} {odd} {many}")?;
-    Ok(insert_all(s, read, even, odd, many))
+    for name in (1..=many).rev() {
+        let set = if name % 2 == 0 { even } else { odd };
+        let _ = s.insert(read, set, name, 7);
+    }
+    Ok(())
 }
 
 // The listing up to its removal.
 pub(crate) fn listing(rt: &impl Print) -> io::Result<Suite> {
-    let s = three(rt)?;
-    let s = ins(rt, s, 3, 3, 20, 7)?;
-    let s = ins(rt, s, 6, 6, 10, 3)?;
-    let s = ins(rt, s, 5, 5, 30, 9)?;
-    del(rt, s, 5, 6, 20)
+    let mut s = three(rt)?;
+    ins(rt, &mut s, 3, 3, 20, 7)?;
+    ins(rt, &mut s, 6, 6, 10, 3)?;
+    ins(rt, &mut s, 5, 5, 30, 9)?;
+    del(rt, &mut s, 5, 6, 20)?;
+    Ok(s)
 }

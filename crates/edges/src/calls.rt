@@ -1,109 +1,99 @@
-// The calls, each printed with what came of it. Those that change a suite give it back.
+// The calls, each printed with what came of it.
 use crate::say::{end_line, show, show_end, show_reading, show_refusal};
 use std::io;
-use suite::{Change, Changed, Creation, Looked, Near, Suite};
+use suite::{Done, Refusal, Suite};
 
 fn show_all(rt: &impl Print, numbers: &[u32]) -> io::Result<()> {
-    let mut i = 0;
-    while i < numbers.len() {
-        show(rt, numbers[i])?;
-        i += 1;
+    for number in numbers {
+        show(rt, *number)?;
     }
     Ok(())
 }
 
+// The suite that creation makes; where it is refused, a suite of no members.
 pub(crate) fn create(rt: &impl Print, read: u32, write: u32, votes: &[u32]) -> io::Result<Suite> {
     print!(rt; "suite {read} {write}")?;
     show_all(rt, votes)?;
     let made = Suite::create(read, write, votes);
-    let answer = made.answer;
-    match answer {
-        Creation::Done => print!(rt; " -> suite ok")?,
-        Creation::No(refusal) => show_refusal(rt, refusal)?,
+    match made {
+        Ok(_) => print!(rt; " -> suite ok")?,
+        Err(refusal) => show_refusal(rt, refusal)?,
     }
     end_line(rt)?;
-    Ok(made.suite)
+    Ok(made.unwrap_or(Suite::blank()))
 }
 
-pub(crate) fn look(rt: &impl Print, s: Suite, set: u32, name: u32) -> io::Result<()> {
+pub(crate) fn look(rt: &impl Print, s: &Suite, set: u32, name: u32) -> io::Result<()> {
     print!(rt; "look {set} {name}")?;
-    let answer = s.lookup(set, name);
-    match answer {
-        Looked::Is { reading, requests } => {
-            show_reading(rt, reading)?;
-            show(rt, requests)?;
+    match s.lookup(set, name) {
+        Ok(looked) => {
+            show_reading(rt, looked.reading)?;
+            show(rt, looked.requests)?;
         }
-        Looked::No(refusal) => show_refusal(rt, refusal)?,
+        Err(refusal) => show_refusal(rt, refusal)?,
     }
     end_line(rt)
 }
 
-pub(crate) fn near(rt: &impl Print, s: Suite, set: u32, name: u32) -> io::Result<()> {
+pub(crate) fn near(rt: &impl Print, s: &Suite, set: u32, name: u32) -> io::Result<()> {
     print!(rt; "near {set} {name}")?;
-    let answer = s.neighbours(set, name);
-    match answer {
-        Near::Is {
-            below,
-            above,
-            requests,
-        } => {
+    match s.neighbours(set, name) {
+        Ok(near) => {
             print!(rt; " ->")?;
-            show_end(rt, below)?;
-            show_end(rt, above)?;
-            show(rt, requests)?;
+            show_end(rt, near.below)?;
+            show_end(rt, near.above)?;
+            show(rt, near.requests)?;
         }
-        Near::No(refusal) => show_refusal(rt, refusal)?,
+        Err(refusal) => show_refusal(rt, refusal)?,
     }
     end_line(rt)
 }
 
-// The answer of a change, and the suite beside it.
-fn settle(rt: &impl Print, changed: Changed) -> io::Result<Suite> {
-    let answer = changed.answer;
+// The answer of a change.
+fn show_change(rt: &impl Print, answer: Result<Done, Refusal>) -> io::Result<()> {
     match answer {
-        Change::Done { version, requests } => print!(rt; " -> ok {version} {requests}")?,
-        Change::No(refusal) => show_refusal(rt, refusal)?,
+        Ok(Done { version, requests }) => print!(rt; " -> ok {version} {requests}")?,
+        Err(refusal) => show_refusal(rt, refusal)?,
     }
-    end_line(rt)?;
-    Ok(changed.suite)
+    end_line(rt)
 }
 
 pub(crate) fn ins(
     rt: &impl Print,
-    s: Suite,
+    s: &mut Suite,
     read: u32,
     write: u32,
     name: u32,
     value: u32,
-) -> io::Result<Suite> {
+) -> io::Result<()> {
     print!(rt; "ins {read} {write} {name} {value}")?;
-    settle(rt, s.insert(read, write, name, value))
+    show_change(rt, s.insert(read, write, name, value))
 }
 
 pub(crate) fn upd(
     rt: &impl Print,
-    s: Suite,
+    s: &mut Suite,
     read: u32,
     write: u32,
     name: u32,
     value: u32,
-) -> io::Result<Suite> {
+) -> io::Result<()> {
     print!(rt; "upd {read} {write} {name} {value}")?;
-    settle(rt, s.update(read, write, name, value))
+    show_change(rt, s.update(read, write, name, value))
 }
 
 pub(crate) fn del(
     rt: &impl Print,
-    s: Suite,
+    s: &mut Suite,
     read: u32,
     write: u32,
     name: u32,
-) -> io::Result<Suite> {
+) -> io::Result<()> {
     print!(rt; "del {read} {write} {name}")?;
-    settle(rt, s.remove(read, write, name))
+    show_change(rt, s.remove(read, write, name))
 }
 
-// All five calls on the same suite.
+// All five calls on the same suite: each change is made in a copy of it.
 pub(crate) fn each(
     rt: &impl Print,
     s: Suite,
@@ -112,18 +102,19 @@ pub(crate) fn each(
     name: u32,
     value: u32,
 ) -> io::Result<()> {
-    look(rt, s, read, name)?;
-    near(rt, s, read, name)?;
-    ins(rt, s, read, write, name, value)?;
-    upd(rt, s, read, write, name, value)?;
-    del(rt, s, read, write, name)?;
-    Ok(())
+    look(rt, &s, read, name)?;
+    near(rt, &s, read, name)?;
+    let mut inserted = s;
+    ins(rt, &mut inserted, read, write, name, value)?;
+    let mut updated = s;
+    upd(rt, &mut updated, read, write, name, value)?;
+    let mut removed = s;
+    del(rt, &mut removed, read, write, name)
 }
 
 // What member 0 alone holds at the name.
-pub(crate) fn first_member(rt: &impl Print, s: Suite, name: u32) -> io::Result<()> {
+pub(crate) fn first_member(rt: &impl Print, s: &Suite, name: u32) -> io::Result<()> {
     print!(rt; "member 0 {name}")?;
-    let m = s.members[0];
-    show_reading(rt, m.reading(name))?;
+    show_reading(rt, s.members[0].reading(name))?;
     end_line(rt)
 }

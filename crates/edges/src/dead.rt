@@ -9,35 +9,35 @@ use suite::Suite;
 // bring it back.
 pub(crate) fn counting_members(rt: &impl Print) -> io::Result<()> {
     title(rt, "votes count, not members")?;
-    let s = create(rt, 2, 3, &[2, 1, 1])?;
-    let s = ins(rt, s, 1, 7, 20, 7)?;
-    let s = del(rt, s, 1, 6, 20)?;
-    look(rt, s, 1, 20)?;
-    look(rt, s, 2, 20)?;
-    let s = del(rt, s, 1, 3, 20)?;
-    look(rt, s, 1, 20)?;
-    look(rt, s, 6, 20)?;
+    let mut s = create(rt, 2, 3, &[2, 1, 1])?;
+    ins(rt, &mut s, 1, 7, 20, 7)?;
+    del(rt, &mut s, 1, 6, 20)?;
+    look(rt, &s, 1, 20)?;
+    look(rt, &s, 2, 20)?;
+    del(rt, &mut s, 1, 3, 20)?;
+    look(rt, &s, 1, 20)?;
+    look(rt, &s, 6, 20)?;
     Ok(())
 }
 
 // Member 0 alone would name 20 as a neighbour, and the removal of 10 would then write 20 to the others.
 pub(crate) fn one_members_neighbour(rt: &impl Print) -> io::Result<()> {
     title(rt, "after the listing's removal member 0 still holds 20")?;
-    let s = listing(rt)?;
-    first_member(rt, s, 20)?;
-    near(rt, s, 3, 15)?;
-    near(rt, s, 5, 15)?;
-    near(rt, s, 6, 15)?;
-    near(rt, s, 7, 15)?;
-    near(rt, s, 3, 25)?;
-    near(rt, s, 5, 25)?;
-    near(rt, s, 3, 20)?;
-    near(rt, s, 5, 20)?;
-    let s = del(rt, s, 3, 6, 10)?;
-    look(rt, s, 6, 20)?;
-    look(rt, s, 3, 20)?;
-    look(rt, s, 5, 20)?;
-    near(rt, s, 3, 20)?;
+    let mut s = listing(rt)?;
+    first_member(rt, &s, 20)?;
+    near(rt, &s, 3, 15)?;
+    near(rt, &s, 5, 15)?;
+    near(rt, &s, 6, 15)?;
+    near(rt, &s, 7, 15)?;
+    near(rt, &s, 3, 25)?;
+    near(rt, &s, 5, 25)?;
+    near(rt, &s, 3, 20)?;
+    near(rt, &s, 5, 20)?;
+    del(rt, &mut s, 3, 6, 10)?;
+    look(rt, &s, 6, 20)?;
+    look(rt, &s, 3, 20)?;
+    look(rt, &s, 5, 20)?;
+    near(rt, &s, 3, 20)?;
     Ok(())
 }
 
@@ -47,68 +47,69 @@ pub(crate) fn version_from_entries_alone(rt: &impl Print) -> io::Result<()> {
         rt,
         "the version of the gap counts, not only those of entries",
     )?;
-    let s = listing(rt)?;
-    let s = ins(rt, s, 3, 3, 20, 8)?;
-    look(rt, s, 3, 20)?;
-    look(rt, s, 5, 20)?;
-    look(rt, s, 6, 20)?;
+    let mut s = listing(rt)?;
+    ins(rt, &mut s, 3, 3, 20, 8)?;
+    look(rt, &s, 3, 20)?;
+    look(rt, &s, 5, 20)?;
+    look(rt, &s, 6, 20)?;
     title(rt, "the same with the gap in a lower-numbered member")?;
-    let s = three(rt)?;
-    let s = ins(rt, s, 7, 7, 20, 7)?;
-    let s = del(rt, s, 7, 3, 20)?;
-    let s = ins(rt, s, 7, 6, 20, 8)?;
-    look(rt, s, 3, 20)?;
-    let s = del(rt, s, 7, 6, 20)?;
-    look(rt, s, 3, 20)?;
-    look(rt, s, 5, 20)?;
+    let mut s = three(rt)?;
+    ins(rt, &mut s, 7, 7, 20, 7)?;
+    del(rt, &mut s, 7, 3, 20)?;
+    ins(rt, &mut s, 7, 6, 20, 8)?;
+    look(rt, &s, 3, 20)?;
+    del(rt, &mut s, 7, 6, 20)?;
+    look(rt, &s, 3, 20)?;
+    look(rt, &s, 5, 20)?;
     Ok(())
 }
 
 // Member 0 does not hold 10. If the insert of 20 raised the gap around 10 there, it would be level with the entry of member 2.
 pub(crate) fn version_of_a_split_gap(rt: &impl Print) -> io::Result<()> {
     title(rt, "both halves of a split gap keep its version")?;
-    let s = three(rt)?;
-    let s = ins(rt, s, 6, 6, 10, 3)?;
-    let s = ins(rt, s, 3, 3, 20, 7)?;
-    look(rt, s, 5, 10)?;
-    look(rt, s, 3, 5)?;
-    look(rt, s, 3, 15)?;
-    look(rt, s, 3, 25)?;
+    let mut s = three(rt)?;
+    ins(rt, &mut s, 6, 6, 10, 3)?;
+    ins(rt, &mut s, 3, 3, 20, 7)?;
+    look(rt, &s, 5, 10)?;
+    look(rt, &s, 3, 5)?;
+    look(rt, &s, 3, 15)?;
+    look(rt, &s, 3, 25)?;
     Ok(())
 }
 
 // All members hold 10, 15 and 20; then 15 is gone from members 0 and 2.
 fn without_15(rt: &impl Print) -> io::Result<Suite> {
-    let s = three(rt)?;
-    let s = ins(rt, s, 7, 7, 10, 1)?;
-    let s = ins(rt, s, 7, 7, 15, 5)?;
-    let s = ins(rt, s, 7, 7, 20, 1)?;
-    del(rt, s, 7, 5, 15)
+    let mut s = three(rt)?;
+    ins(rt, &mut s, 7, 7, 10, 1)?;
+    ins(rt, &mut s, 7, 7, 15, 5)?;
+    ins(rt, &mut s, 7, 7, 20, 1)?;
+    del(rt, &mut s, 7, 5, 15)?;
+    Ok(s)
 }
 
 // Member 0 wins round one by the gap that 15 left, and its 10 is stale. If that were written, members 0 and 2 would bring
 // back the old value.
 pub(crate) fn stale_predecessor(rt: &impl Print) -> io::Result<()> {
     title(rt, "the predecessor's newest version is written")?;
-    let s = without_15(rt)?;
-    let s = upd(rt, s, 7, 6, 10, 2)?;
-    first_member(rt, s, 10)?;
-    let s = del(rt, s, 3, 5, 20)?;
-    first_member(rt, s, 10)?;
-    look(rt, s, 5, 10)?;
-    look(rt, s, 3, 10)?;
+    let mut s = without_15(rt)?;
+    upd(rt, &mut s, 7, 6, 10, 2)?;
+    first_member(rt, &s, 10)?;
+    del(rt, &mut s, 3, 5, 20)?;
+    first_member(rt, &s, 10)?;
+    look(rt, &s, 5, 10)?;
+    look(rt, &s, 3, 10)?;
     Ok(())
 }
 
 // The mirror image.
 pub(crate) fn stale_successor(rt: &impl Print) -> io::Result<()> {
     title(rt, "the successor's newest version is written")?;
-    let s = without_15(rt)?;
-    let s = upd(rt, s, 7, 6, 20, 2)?;
-    first_member(rt, s, 20)?;
-    let s = del(rt, s, 3, 5, 10)?;
-    first_member(rt, s, 20)?;
-    look(rt, s, 5, 20)?;
-    look(rt, s, 3, 20)?;
+    let mut s = without_15(rt)?;
+    upd(rt, &mut s, 7, 6, 20, 2)?;
+    first_member(rt, &s, 20)?;
+    del(rt, &mut s, 3, 5, 10)?;
+    first_member(rt, &s, 20)?;
+    look(rt, &s, 5, 20)?;
+    look(rt, &s, 3, 20)?;
     Ok(())
 }

@@ -33,10 +33,10 @@ pub(crate) fn creation(rt: &impl Print) -> io::Result<()> {
 
 pub(crate) fn names(rt: &impl Print) -> io::Result<()> {
     title(rt, "names 0 and 1048575")?;
-    let s = create(rt, 1, 1, &[1])?;
-    let s = ins(rt, s, 1, 1, 0, Value::LARGEST)?;
-    let s = ins(rt, s, 1, 1, Name::LARGEST, 0)?;
-    near(rt, s, 1, 500)?;
+    let mut s = create(rt, 1, 1, &[1])?;
+    ins(rt, &mut s, 1, 1, 0, Value::LARGEST)?;
+    ins(rt, &mut s, 1, 1, Name::LARGEST, 0)?;
+    near(rt, &s, 1, 500)?;
     each(rt, s, 1, 1, 0, 1)?;
     each(rt, s, 1, 1, Name::LARGEST, 1)?;
     title(rt, "names 1048576 and 4294967295")?;
@@ -49,7 +49,9 @@ pub(crate) fn names(rt: &impl Print) -> io::Result<()> {
 
 // 5 is present, and 6 is not.
 fn with_five(rt: &impl Print) -> io::Result<Suite> {
-    ins(rt, three(rt)?, 3, 3, 5, 1)
+    let mut s = three(rt)?;
+    ins(rt, &mut s, 3, 3, 5, 1)?;
+    Ok(s)
 }
 
 pub(crate) fn values(rt: &impl Print) -> io::Result<()> {
@@ -160,16 +162,16 @@ pub(crate) fn new_versions(rt: &impl Print) -> io::Result<()> {
 
 pub(crate) fn room(rt: &impl Print) -> io::Result<()> {
     title(rt, "31 entries, then 32")?;
-    let s = create(rt, 1, 1, &[1])?;
-    let s = fill(rt, s, 1, 1, 1, 31)?;
+    let mut s = create(rt, 1, 1, &[1])?;
+    fill(rt, &mut s, 1, 1, 1, 31)?;
     each(rt, s, 1, 1, 50, 2)?;
-    let s = ins(rt, s, 1, 1, 50, 2)?;
+    ins(rt, &mut s, 1, 1, 50, 2)?;
     each(rt, s, 1, 1, 51, 2)?;
     each(rt, s, 1, 1, 50, 2)?;
     title(rt, "a freed place is used again")?;
-    let s = del(rt, s, 1, 1, 50)?;
-    let s = ins(rt, s, 1, 1, 51, 2)?;
-    ins(rt, s, 1, 1, 50, 2)?;
+    del(rt, &mut s, 1, 1, 50)?;
+    ins(rt, &mut s, 1, 1, 51, 2)?;
+    ins(rt, &mut s, 1, 1, 50, 2)?;
     Ok(())
 }
 
@@ -178,11 +180,11 @@ pub(crate) fn version_before_room(rt: &impl Print) -> io::Result<()> {
         rt,
         "12 comes before 13: member 0 is full, member 1 has a gap of version 16777214, then 16777215",
     )?;
-    let s = create(rt, 1, 2, &[1, 1])?;
-    let mut s = fill(rt, s, 3, 3, 3, 32)?;
+    let mut s = create(rt, 1, 2, &[1, 1])?;
+    fill(rt, &mut s, 3, 3, 3, 32)?;
     s.members[1] = Member::empty(Version::LARGEST - 1);
-    ins(rt, s, 2, 3, 50, 2)?;
+    ins(rt, &mut s, 2, 3, 50, 2)?;
     s.members[1] = Member::empty(Version::LARGEST);
-    ins(rt, s, 2, 3, 50, 2)?;
+    ins(rt, &mut s, 2, 3, 50, 2)?;
     Ok(())
 }

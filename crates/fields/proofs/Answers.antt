@@ -10,7 +10,7 @@ use lib.Dec.{leb}
 use borrow.Author.Tests.{le-leb, lt-leb, leb-true, leb-false}
 use Rattle.fields.specs.Bits.{field_bits, bits_of, bytes_of, field_at, append_bits, after_bits, Below}
 use Rattle.fields.specs.Field.{fits_in, widest, read_of, has_word, word_of, append_of, after_of}
-use Rattle.fields.specs.declared.Field.TheVariants.{Is, Short}
+use Rattle.std.specs.Prelude.{Some, None}
 use Rattle.fields.proofs.Bytes.{length-bits_of, bits_of_below, length-bytes_of, bytes_of_below, bits_of-bytes_of}
 use Rattle.fields.proofs.Places.{field_at-high, field_at_low}
 use Rattle.fields.proofs.Appending.{length-append_bits, length-after_bits, append_bits_below, after_bits_below, after-append}
@@ -53,41 +53,41 @@ fits_bytes n at w h = go (leb (at / 8 + (at % 8 + w + 7) / 8) n) refl
 
 -- ---- reading
 
-pub read_is : (l : List ℕ) (at w : ℕ) → fits_in (length l) at w ≡ true → read_of l at w ≡ Is (field_at (bits_of l) at w)
+pub read_is : (l : List ℕ) (at w : ℕ) → fits_in (length l) at w ≡ true → read_of l at w ≡ Some (field_at (bits_of l) at w)
 unfolding read_of
 read_is l at w e = rw e
 
-pub read_short : (l : List ℕ) (at w : ℕ) → fits_in (length l) at w ≡ false → read_of l at w ≡ Short
+pub read_short : (l : List ℕ) (at w : ℕ) → fits_in (length l) at w ≡ false → read_of l at w ≡ None
 unfolding read_of
 read_short l at w e = rw e
 
 -- a field that is read fits its width, and is there
-pub read_some : (l : List ℕ) (at w v : ℕ) → read_of l at w ≡ Is v
+pub read_some : (l : List ℕ) (at w v : ℕ) → read_of l at w ≡ Some v
     → (fits_in (length l) at w ≡ true) × (v ≡ field_at (bits_of l) at w)
 read_some l at w v p = go (fits_in (length l) at w) refl
   where
     go : (b : Bool) → fits_in (length l) at w ≡ b → (fits_in (length l) at w ≡ true) × (v ≡ field_at (bits_of l) at w)
     go true e =
-        let q : Is (field_at (bits_of l) at w) ≡ Is v = sym (read_is l at w e) ∙ p in
+        let q : Some (field_at (bits_of l) at w) ≡ Some v = sym (read_is l at w e) ∙ p in
         let n : v ≡ field_at (bits_of l) at w = cc in
         (e, n)
     go false e =
-        let q : Short ≡ Is v = sym (read_short l at w e) ∙ p in
+        let q : None ≡ Some v = sym (read_short l at w e) ∙ p in
         let z : ◌≡◌ {A = ℕ} 0 1 = cc in
         absurd (omega arith)
 
 -- two fields that were read as one
-pub read_split : (l : List ℕ) (at w u x : ℕ) → read_of l at (w + u) ≡ Is x
-    → (read_of l at w ≡ Is (x / 2 ^ u)) × (read_of l (at + w) u ≡ Is (x % 2 ^ u))
+pub read_split : (l : List ℕ) (at w u x : ℕ) → read_of l at (w + u) ≡ Some x
+    → (read_of l at w ≡ Some (x / 2 ^ u)) × (read_of l (at + w) u ≡ Some (x % 2 ^ u))
 read_split l at w u x p =
     let q = read_some l at (w + u) x p in
     let n : w + u ≤ 56 = fits_narrow (length l) at (w + u) q.0 in
     let k : at + (w + u) ≤ 8 * length l = fits_within (length l) at (w + u) q.0 in
     let b : at + (w + u) ≤ length (bits_of l) = rw (length-bits_of l) k in (
       read_is l at w (fits_yes (length l) at w (omega arith) (omega arith))
-          ∙ ap Is (sym (ap (λ (y : ℕ). y / 2 ^ u) q.1 ∙ field_at-high (bits_of l) at w u (bits_of_below l) b)),
+          ∙ ap Some (sym (ap (λ (y : ℕ). y / 2 ^ u) q.1 ∙ field_at-high (bits_of l) at w u (bits_of_below l) b)),
       read_is l (at + w) u (fits_yes (length l) (at + w) u (omega arith) (omega arith))
-          ∙ ap Is (sym (ap (λ (y : ℕ). y % 2 ^ u) q.1 ∙ field_at_low (bits_of l) at w u (bits_of_below l) b)),
+          ∙ ap Some (sym (ap (λ (y : ℕ). y % 2 ^ u) q.1 ∙ field_at_low (bits_of l) at w u (bits_of_below l) b)),
     )
 
 -- ---- where eight bytes are
@@ -95,14 +95,6 @@ read_split l at w u x p =
 pub has_yes : (n at w : ℕ) → w ≤ 56 → at / 8 + 8 ≤ n → has_word n at w ≡ true
 unfolding has_word widest
 has_yes n at w h k = rw (le-leb w 56 h) (le-leb (at / 8 + 8) n k)
-
-pub has_wide : (n at w : ℕ) → 56 < w → has_word n at w ≡ false
-unfolding has_word widest
-has_wide n at w h = rw (lt-leb w 56 h)
-
-pub has_bytes : (n at w : ℕ) → w ≤ 56 → leb (at / 8 + 8) n ≡ has_word n at w
-unfolding has_word widest
-has_bytes n at w h = rw (le-leb w 56 h)
 
 pub has_narrow : (n at w : ℕ) → has_word n at w ≡ true → w ≤ 56
 unfolding has_word widest
@@ -119,21 +111,21 @@ has_fits n at w e =
     fits_yes n at w h (omega arith)
 
 -- the field is then the one that `read` answers
-pub word_is : (l : List ℕ) (at w : ℕ) → has_word (length l) at w ≡ true → word_of l at w ≡ Is (field_at (bits_of l) at w)
+pub word_is : (l : List ℕ) (at w : ℕ) → has_word (length l) at w ≡ true → word_of l at w ≡ Some (field_at (bits_of l) at w)
 unfolding word_of
 word_is l at w e = rw e
 
-pub word_short : (l : List ℕ) (at w : ℕ) → has_word (length l) at w ≡ false → word_of l at w ≡ Short
+pub word_short : (l : List ℕ) (at w : ℕ) → has_word (length l) at w ≡ false → word_of l at w ≡ None
 unfolding word_of
 word_short l at w e = rw e
 
-pub word_read : (l : List ℕ) (at w v : ℕ) → word_of l at w ≡ Is v → read_of l at w ≡ Is v
+pub word_read : (l : List ℕ) (at w v : ℕ) → word_of l at w ≡ Some v → read_of l at w ≡ Some v
 word_read l at w v p = go (has_word (length l) at w) refl
   where
-    go : (b : Bool) → has_word (length l) at w ≡ b → read_of l at w ≡ Is v
+    go : (b : Bool) → has_word (length l) at w ≡ b → read_of l at w ≡ Some v
     go true e = read_is l at w (has_fits (length l) at w e) ∙ sym (word_is l at w e) ∙ p
     go false e =
-        let q : Short ≡ Is v = sym (word_short l at w e) ∙ p in
+        let q : None ≡ Some v = sym (word_short l at w e) ∙ p in
         let z : ◌≡◌ {A = ℕ} 0 1 = cc in
         absurd (omega arith)
 

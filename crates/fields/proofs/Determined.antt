@@ -4,17 +4,17 @@ use Prim.Native.Nat.{ℕ}
 use mathlib.Core.Path.{◌≡◌, sym, ◌∙◌}
 use mathlib.Core.List.{List}
 use Rattle.fields.specs.Field.{read_of, word_of, append_of, after_of}
-use Rattle.fields.specs.declared.Field.{Field}
+use Rattle.std.specs.Prelude.{Option}
 
 -- `read`: the answer
-pub read_determined : (bytes : List ℕ) (at width : ℕ) (r s : Field)
+pub read_determined : (bytes : List ℕ) (at width : ℕ) (r s : Option ℕ)
     → r ≡ read_of bytes at width
     → s ≡ read_of bytes at width
     → r ≡ s
 read_determined bytes at width r s p q = p ∙ sym q
 
 -- `read_word`: the answer
-pub read_word_determined : (bytes : List ℕ) (at width : ℕ) (r s : Field)
+pub read_word_determined : (bytes : List ℕ) (at width : ℕ) (r s : Option ℕ)
     → r ≡ word_of bytes at width
     → s ≡ word_of bytes at width
     → r ≡ s

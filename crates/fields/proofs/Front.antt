@@ -11,24 +11,24 @@ use lib.Dec.{leb}
 use borrow.Author.Tests.{le-leb, lt-leb, leb-true, leb-false}
 use Rattle.fields.specs.Bits.{field_bits, bits_of, field_at}
 use Rattle.fields.specs.Field.{read_of, front_of}
-use Rattle.fields.specs.declared.Field.TheVariants.{Is, Short}
+use Rattle.std.specs.Prelude.{Some, None}
 use Rattle.fields.proofs.Bytes.{length-bits_of}
 use Rattle.fields.proofs.Places.{field_at-drop, field_at-first, front_length}
 use Rattle.fields.proofs.Answers.{fits_yes, fits_past, read_is, read_short}
 
-pub front_is : (w : ℕ) (l : List ℕ) → w ≤ length l → front_of w l ≡ Is (field_at l 0 w)
+pub front_is : (w : ℕ) (l : List ℕ) → w ≤ length l → front_of w l ≡ Some (field_at l 0 w)
 unfolding front_of
 front_is w l h = rw (le-leb w (length l) h)
 
-pub front_short : (w : ℕ) (l : List ℕ) → length l < w → front_of w l ≡ Short
+pub front_short : (w : ℕ) (l : List ℕ) → length l < w → front_of w l ≡ None
 unfolding front_of
 front_short w l h = rw (lt-leb w (length l) h)
 
 -- a field that was written is read
-pub front_field : (w v : ℕ) (l : List ℕ) → v < 2 ^ w → front_of w (field_bits w v ++ l) ≡ Is v
+pub front_field : (w v : ℕ) (l : List ℕ) → v < 2 ^ w → front_of w (field_bits w v ++ l) ≡ Some v
 front_field w v l h =
     let n : w ≤ length (field_bits w v ++ l) = rw (front_length w v l) (omega arith) in
-    front_is w (field_bits w v ++ l) n ∙ ap Is (field_at-first w v l h)
+    front_is w (field_bits w v ++ l) n ∙ ap Some (field_at-first w v l h)
 
 length_rest : (bytes : List ℕ) (at : ℕ) → at ≤ 8 * length bytes
     → at + length (drop at (bits_of bytes)) ≡ 8 * length bytes
@@ -46,7 +46,7 @@ read_from bytes at w h k = go (leb w (length (drop at (bits_of bytes)))) refl
     go true e =
         let m : w ≤ length (drop at (bits_of bytes)) = leb-true w (length (drop at (bits_of bytes))) e in
         read_is bytes at w (fits_yes (length bytes) at w h (omega (arith, n)))
-        ∙ ap Is (ap (λ (i : ℕ). field_at (bits_of bytes) i w) (sym (add-zero at)) ∙ field_at-drop (bits_of bytes) at 0 w)
+        ∙ ap Some (ap (λ (i : ℕ). field_at (bits_of bytes) i w) (sym (add-zero at)) ∙ field_at-drop (bits_of bytes) at 0 w)
         ∙ sym (front_is w (drop at (bits_of bytes)) m)
     go false e =
         let m : length (drop at (bits_of bytes)) < w = leb-false w (length (drop at (bits_of bytes))) e in

@@ -2,15 +2,14 @@
 -- field, and zeros.
 -- Assumes nothing.
 use Prim.Native.Nat.{ℕ, zero, suc, ◌+◌, ◌-◌, ◌*◌, ◌/◌, ◌%◌, ◌^◌, ◌≤◌, ◌<◌}
-use native.Mathlib.Nat.{mod-lt, mod-eq_of_lt, zero-mod, div-one}
-use native.Mathlib.Numerals.{unary_clauses}
+use native.Mathlib.Nat.{mod-lt, mod-eq_of_lt, zero-mod}
 use native.Mathlib.Omega.{arith}
 use mathlib.Core.Bool.{true}
 use mathlib.Core.Path.{◌≡◌, refl, sym, ap, ap₂, ◌∙◌}
 use mathlib.Core.List.{List, ◌++◌, append_assoc}
 use lib.ListN.{length, get_or, take, drop, replicate}
-use lib.Seq.{sets, length-sets, sets-eq, take-add, drop_at, length-take-le}
-use lib.Pow.{pow_pos, shr-shr}
+use lib.Seq.{length-sets, sets-eq, take-add, drop_at, length-take-le}
+use lib.Pow.{pow_pos}
 use Rattle.fields.specs.Bits.{field_bits, bits_of, bytes_of, field_at, after_bits, Below}
 use Rattle.fields.specs.Field.{has_word, append_of, after_of}
 use Rattle.fields.specs.Word.{bytes_in, with_word, part_of, join_of, behind_of}
@@ -23,11 +22,6 @@ use Rattle.fields.proofs.Answers.{has_narrow, has_within, after_is, after-known}
 use Rattle.fields.proofs.Within.{byte_at}
 
 -- ---- the bytes of a word
-
--- four and four
-pub word_halves : (l : List ℕ) (i x : ℕ)
-    → sets (sets l i (bytes_in 4 (x / 2 ^ 32))) (i + 4) (bytes_in 4 x) ≡ with_word l i x
-word_halves l i x = simp (unary_clauses, shr-shr, div-one) refl
 
 bytes_in_below : (n x : ℕ) → Below 256 (bytes_in n x)
 bytes_in_below zero x = tt

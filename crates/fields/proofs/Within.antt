@@ -11,7 +11,7 @@ use lib.ListN.{length, get_or, replicate, length-append, length-replicate}
 use Rattle.fields.specs.Bits.{field_bits, bits_of, field_at, Below}
 use Rattle.fields.specs.Word.{number_at, word_at, part_of, behind_of}
 use Rattle.fields.specs.Field.{fits_in, read_of, has_word, word_of}
-use Rattle.fields.specs.declared.Field.TheVariants.{Is}
+use Rattle.std.specs.Prelude.{Some}
 use Rattle.fields.proofs.Below.{below_append, below_zeros}
 use Rattle.fields.proofs.Width.{length-field_bits}
 use Rattle.fields.proofs.Bytes.{length-bits_of, bits_of_below, bits_of-append}
@@ -64,10 +64,7 @@ word_bits l i h k =
     let m = l ++ replicate 8 0 in
     let b = below_append 256 l (replicate 8 0) h (below_zeros 255 8) in
     let n : length m ≡ length l + 8 = length-append l (replicate 8 0) in
-    let e : 8 * (i + 4) ≡ 8 * i + 32 = omega arith in
-    ap₂ (λ (x y : ℕ). x * 2 ^ 32 + y) (sym (number_padded l 8 i 3) ∙ number_bits m i 3 b (omega arith))
-    (sym (number_padded l 8 (i + 4) 3) ∙ number_bits m (i + 4) 3 b (omega arith) ∙ ap (λ (j : ℕ). field_at (bits_of m) j 32) e)
-    ∙ sym (field_at_add (bits_of m) (8 * i) 32 32 (rw (length-bits_of m) (omega arith)))
+    sym (number_padded l 8 i 7) ∙ number_bits m i 7 b (omega arith)
 
 -- ---- a part of the number
 
@@ -108,12 +105,12 @@ read_within l at w h n k =
 -- ---- what `read` and `read_word` answer
 
 module _ (l : List ℕ) (at w x : ℕ) (h : Below 256 l) (p : x ≡ part_of (word_at l (at / 8)) (behind_of at w) w) where
-  field-met : fits_in (length l) at w ≡ true → Is x ≡ Is (field_at (bits_of l) at w)
+  field-met : fits_in (length l) at w ≡ true → Some x ≡ Some (field_at (bits_of l) at w)
   field-met e =
-      ap Is (p ∙ read_within l at w h (fits_narrow (length l) at w e) (fits_within (length l) at w e))
+      ap Some (p ∙ read_within l at w h (fits_narrow (length l) at w e) (fits_within (length l) at w e))
 
-  pub read-met : fits_in (length l) at w ≡ true → Is x ≡ read_of l at w
+  pub read-met : fits_in (length l) at w ≡ true → Some x ≡ read_of l at w
   read-met e = field-met e ∙ sym (read_is l at w e)
 
-  pub word-met : has_word (length l) at w ≡ true → Is x ≡ word_of l at w
+  pub word-met : has_word (length l) at w ≡ true → Some x ≡ word_of l at w
   word-met e = field-met (has_fits (length l) at w e) ∙ sym (word_is l at w e)

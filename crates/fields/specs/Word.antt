@@ -8,9 +8,9 @@ abbrev pub number_at : List ℕ → ℕ → ℕ → ℕ
 number_at l i zero = get_or l i 0
 number_at l i (suc n) = number_at l i n * 256 + get_or l (i + suc n) 0
 
--- the eight bytes from byte i on, taken four by four
+-- the eight bytes from byte i on
 abbrev pub word_at : List ℕ → ℕ → ℕ
-word_at l i = number_at l i 3 * 2 ^ 32 + number_at l (i + 4) 3
+word_at l i = number_at l i 7
 
 -- the n lowest bytes of a number, highest first
 abbrev pub bytes_in : ℕ → ℕ → List ℕ

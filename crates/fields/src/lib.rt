@@ -1,43 +1,33 @@
 // Bit fields of an image, most significant bit first: reading one, and appending one.
 #![tactic(auto)]
 
-ghost use Rattle.std.specs.Prelude.{◌≡◌, ◌+◌, ◌-◌, ◌*◌, ◌^◌, ◌≤◌, ◌<◌, length, get_or};
-ghost use Rattle.std.proofs.lemmas.List.Edits.{sets};
+ghost use Rattle.std.specs.Prelude.{◌≡◌, ◌+◌, ◌-◌, ◌^◌, ◌≤◌, ◌<◌, length};
 ghost use Rattle.fields.specs.Field.{fits_in, read_of, has_word, word_of, append_of, after_of};
-ghost use Rattle.fields.specs.Word.{number_at, word_at, bytes_in, with_word, part_of, join_of, behind_of};
+ghost use Rattle.fields.specs.Word.{word_at, with_word, part_of, join_of, behind_of};
 
-// A field of an image: its number, or the image ends before the field does.
-#[derive(Clone, Copy)]
-pub enum Field {
-    Is(u64),
-    Short,
-}
+// The most bits that a field has: with the up to seven bits before it in its first byte it lies within eight bytes.
+pub const WIDEST: u32 = 56;
 
-impl Field {
-    // The most bits that a field has: with the up to seven bits before it in its first byte it lies within eight bytes.
-    pub const WIDEST: u32 = 56;
-}
-
-// The field of `width` bits at bit `at`.
-pub fn read(bytes: &[u8], at: usize, width: u32) -> Field
+// The field of `width` bits at bit `at`; none where the image ends before the field does.
+pub fn read(bytes: &[u8], at: usize, width: u32) -> Option<u64>
     ensures { result ≡ read_of bytes.now at width }
 {
     if fits(bytes.len(), at, width) {
-        Field::Is(part(word(bytes, at / 8), behind(at, width), width))
+        Some(part(word(bytes, at / 8), behind(at, width), width))
     } else {
-        Field::Short
+        None
     }
 }
 
 // The same where the eight bytes from the field's first one on are all there, which is so but for the end of the image:
 // one test and one load.
-pub fn read_word(bytes: &[u8], at: usize, width: u32) -> Field
+pub fn read_word(bytes: &[u8], at: usize, width: u32) -> Option<u64>
     ensures { result ≡ word_of bytes.now at width }
 {
     if has_word(bytes.len(), at, width) {
-        Field::Is(part(whole_word(bytes, at / 8), behind(at, width), width))
+        Some(part(whole_word(bytes, at / 8), behind(at, width), width))
     } else {
-        Field::Short
+        None
     }
 }
 
@@ -47,7 +37,7 @@ pub fn append(bytes: &mut [u8], at: usize, width: u32, v: u64)
     ensures { bytes.new ≡ append_of bytes.old at width v }
 {
     if has_word(bytes.len(), at, width) {
-        let before = wide(bytes[at / 8]) >> (8 - (at % 8) as u32);
+        let before = u64::from(bytes[at / 8]) >> (8 - (at % 8) as u32);
         put_word(bytes, at / 8, join(before, behind(at, width), width, v));
     }
 }
@@ -68,20 +58,14 @@ pub fn append_after(bytes: &mut [u8], at: usize, before: u64, width: u32, v: u64
 fn fits(len: usize, at: usize, width: u32) -> bool
     ensures { result ≡ fits_in len at width }
 {
-    if Field::WIDEST < width {
-        return false;
-    }
-    at / 8 + (at % 8 + width as usize + 7) / 8 <= len
+    width <= WIDEST && at / 8 + (at % 8 + width as usize + 7) / 8 <= len
 }
 
 // Whether the eight bytes from the field's first one on lie within `len` bytes.
 fn has_word(len: usize, at: usize, width: u32) -> bool
     ensures { result ≡ has_word len at width }
 {
-    if Field::WIDEST < width {
-        return false;
-    }
-    at / 8 + 8 <= len
+    width <= WIDEST && at / 8 + 8 <= len
 }
 
 // How many of the 64 bits that start with the field's first byte stand behind the field; none where all of them do.
@@ -110,7 +94,7 @@ fn join(before: u64, after: u32, width: u32, v: u64) -> u64
 
 // The eight bytes from byte `first` on as one number, the first the highest; a byte past the end counts as 0.
 fn word(bytes: &[u8], first: usize) -> u64
-    requires { first < 2 ^ 62 }
+    requires { first ≤ length bytes.now }
     ensures { result ≡ word_at bytes.now first }
 {
     if first + 8 <= bytes.len() {
@@ -125,71 +109,31 @@ fn whole_word(bytes: &[u8], first: usize) -> u64
     requires { first + 8 ≤ length bytes.now }
     ensures { result ≡ word_at bytes.now first }
 {
-    half(bytes, first) * 4294967296 + half(bytes, first + 4)
-}
-
-fn half(bytes: &[u8], first: usize) -> u64
-    requires { first + 4 ≤ length bytes.now }
-    ensures { (result ≡ number_at bytes.now first 3) × (result < 2 ^ 32) }
-{
-    let a = wide(bytes[first]);
-    let b = wide(bytes[first + 1]);
-    let c = wide(bytes[first + 2]);
-    let d = wide(bytes[first + 3]);
-    joined(a, b, c, d)
+    u64::from_be_bytes([
+        bytes[first],
+        bytes[first + 1],
+        bytes[first + 2],
+        bytes[first + 3],
+        bytes[first + 4],
+        bytes[first + 5],
+        bytes[first + 6],
+        bytes[first + 7],
+    ])
 }
 
 fn last_word(bytes: &[u8], first: usize) -> u64
-    requires { first < 2 ^ 62 }
+    requires { (first ≤ length bytes.now) × (length bytes.now < first + 8) }
     ensures { result ≡ word_at bytes.now first }
 {
-    last_half(bytes, first) * 4294967296 + last_half(bytes, first + 4)
-}
-
-fn last_half(bytes: &[u8], first: usize) -> u64
-    requires { first < 2 ^ 63 }
-    ensures { (result ≡ number_at bytes.now first 3) × (result < 2 ^ 32) }
-{
-    let a = byte(bytes, first);
-    let b = byte(bytes, first + 1);
-    let c = byte(bytes, first + 2);
-    let d = byte(bytes, first + 3);
-    joined(a, b, c, d)
-}
-
-fn byte(bytes: &[u8], i: usize) -> u64
-    ensures { (result ≡ get_or bytes.now i 0) × (result < 256) }
-{
-    if i < bytes.len() { wide(bytes[i]) } else { 0 }
-}
-
-fn wide(x: u8) -> u64
-    ensures { (result ≡ x) × (result < 256) }
-{
-    x as u64
-}
-
-fn joined(a: u64, b: u64, c: u64, d: u64) -> u64
-    requires { (a < 256) × ((b < 256) × ((c < 256) × (d < 256))) }
-    ensures { (result ≡ ((a * 256 + b) * 256 + c) * 256 + d) × (result < 2 ^ 32) }
-{
-    ((a * 256 + b) * 256 + c) * 256 + d
+    let mut eight = [0; 8];
+    let rest = &bytes[first..];
+    eight[..rest.len()].copy_from_slice(rest);
+    u64::from_be_bytes(eight)
 }
 
 fn put_word(bytes: &mut [u8], first: usize, word: u64)
     requires { first + 8 ≤ length bytes.old }
     ensures { bytes.new ≡ with_word bytes.old first word }
 {
-    put_half(bytes, first, word >> 32);
-    put_half(bytes, first + 4, word);
-}
-
-fn put_half(bytes: &mut [u8], first: usize, x: u64)
-    requires { first + 4 ≤ length bytes.old }
-    ensures { bytes.new ≡ sets bytes.old first (bytes_in 4 x) }
-{
-    bytes[first] = ((x >> 24) % 256) as u8;
-    bytes[first + 1] = ((x >> 16) % 256) as u8;
-    bytes[first + 2] = ((x >> 8) % 256) as u8;
-    bytes[first + 3] = (x % 256) as u8;
+    bytes[first..first + 8].copy_from_slice(&word.to_be_bytes());
 }

@@ -21,8 +21,8 @@ use Rattle.suite.specs.Agree.{settled}
 use Rattle.suite.specs.Rows.{survey_of}
 use Rattle.suite.specs.declared.Suite.{Suite}
 use Rattle.suite.specs.declared.rounds.Survey.{Survey}
-use Rattle.suite.specs.declared.Question.{Question}
-use Rattle.suite.specs.declared.Question.TheVariants as question
+use Rattle.suite.specs.Question.{Question}
+use Rattle.suite.specs.Question as question
 use Rattle.ideal.specs.Forget.{is_entry}
 use Rattle.ideal.specs.Forget as forget
 use Rattle.history.specs.Directory.{Directory}

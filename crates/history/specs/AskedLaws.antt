@@ -8,8 +8,8 @@ use Rattle.suite.specs.SetLaws.{exists_lt, half}
 use Rattle.suite.specs.Suite.{tiles, ballots}
 use Rattle.suite.specs.Calls.{remove, Marked, answer_to, asked, asked_of, predecessor, successor, gap_below_in, gap_above_in, round_one, rounds, answers}
 use Rattle.suite.specs.declared.Suite.{Suite}
-use Rattle.suite.specs.declared.Question.{Question}
-use Rattle.suite.specs.declared.Question.TheVariants as question
+use Rattle.suite.specs.Question.{Question}
+use Rattle.suite.specs.Question as question
 use Rattle.history.specs.Told.{flag}
 use Rattle.history.specs.Asked.{named, askings}
 

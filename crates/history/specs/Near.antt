@@ -1,5 +1,5 @@
 -- Neighbours: what the two rounds of a read set find is the ideal tile's. One proof for either side of the name.
-use Rattle.std.specs.Prelude.{◌≡◌, refl, Bool, true, ℕ, suc, ◌≤◌, ◌<◌, length}
+use Rattle.std.specs.Prelude.{◌≡◌, refl, Bool, true, ℕ, suc, ◌≤◌, ◌<◌, length, Option, Some, None}
 use Rattle.std.proofs.Common.{sym, ap, ◌∙◌, arith}
 use Rattle.std.proofs.Math.Path.{subst, subst₂}
 use mathlib.Core.List.{List, [], ◌∷◌, map}
@@ -16,8 +16,6 @@ use Rattle.member.specs.RoundTwoAbove.{answers-above}
 use Rattle.member.specs.declared.Member.{Member}
 use Rattle.member.specs.declared.Side.{Side}
 use Rattle.member.specs.declared.Bound.{Bound}
-use Rattle.member.specs.declared.Offer.{Offer}
-use Rattle.member.specs.declared.Offer.TheVariants.{Is, Nothing}
 use Rattle.suite.specs.Best.{best}
 use Rattle.suite.specs.Sets.{chosen, votes_of}
 use Rattle.suite.specs.Suite.{tiles, ballots}
@@ -26,7 +24,7 @@ use Rattle.suite.specs.AnswerLaws.{picked_one, skip-last}
 use Rattle.suite.specs.Neighbours.{Facing, facing_below, facing_above, best_side, best_offer, offers-are}
 use Rattle.suite.specs.Calls.{Answer, answer_to, picked, its_reading, its_below, its_above, higher, no_side, gap_below_in, gap_above_in, nearer, rank_below, rank_above, bound_or, predecessor, successor, round_one, rounds}
 use Rattle.suite.specs.declared.Suite.{Suite}
-use Rattle.suite.specs.declared.Question.TheVariants as question
+use Rattle.suite.specs.Question as question
 use Rattle.ideal.specs.Votes.{In, Voting, Reads}
 use Rattle.ideal.specs.Best.{Best, best-same}
 use Rattle.ideal.specs.Invariant.{Inv}
@@ -73,9 +71,9 @@ module _ (x : ℕ) (name : x ≤ largest_name) where
         finds = λ inv read r b one two. below inv read r (space_above x) (place (suc x)) (omega arith) (omega arith) one two;
       }
     where
-      says : (f : Shown) (k v : ℕ) (o : Offer) → AnswersBelow f k v (place (suc x)) o → Says (λ g. OffersBelow g (place k) v (place (suc x))) f o
-      says f k v (Is b) a = a
-      says f k v Nothing a = none_below f k v (place (suc x)) a
+      says : (f : Shown) (k v : ℕ) (o : Option Bound) → AnswersBelow f k v (place (suc x)) o → Says (λ g. OffersBelow g (place k) v (place (suc x))) f o
+      says f k v (Some b) a = a
+      says f k v None a = none_below f k v (place (suc x)) a
 
       from : (b : Side) → Offering rank_below (λ m. offer_below_of m x b.end b.version) (λ f. OffersBelow f (place b.end) b.version (place (suc x))) ◌≤◌
       from b =
@@ -102,9 +100,9 @@ module _ (x : ℕ) (name : x ≤ largest_name) where
         finds = λ inv read r b one two. above inv read r (place (suc x)) (omega arith) one two;
       }
     where
-      says : (f : Shown) (k v : ℕ) (o : Offer) → AnswersAbove f k v (place (suc x)) o → Says (λ g. OffersAbove g (place k) v (place (suc x))) f o
-      says f k v (Is b) a = a
-      says f k v Nothing a = none_above f k v (place (suc x)) a
+      says : (f : Shown) (k v : ℕ) (o : Option Bound) → AnswersAbove f k v (place (suc x)) o → Says (λ g. OffersAbove g (place k) v (place (suc x))) f o
+      says f k v (Some b) a = a
+      says f k v None a = none_above f k v (place (suc x)) a
 
       from : (b : Side) → b.end ≤ high →
           Offering rank_above (λ m. offer_above_of m x b.end b.version) (λ f. OffersAbove f (place b.end) b.version (place (suc x))) (λ y z. z ≤ y)
@@ -146,7 +144,7 @@ module _ {s : Suite} {d : Directory} (h : Held s d) (set : ℕ) (enough : s.read
           }
 
       offered : Bound
-      offered = bound_or (best (nearer F.rank) Nothing (map (F.offer (At i)) (chosen (tiles s) set)))
+      offered = bound_or (best (nearer F.rank) None (map (F.offer (At i)) (chosen (tiles s) set)))
 
       two : (j : ℕ) × FoundTwo (tiles s) set (length (tiles s)) (W.Offered (At i)) W.Within offered j
       unfolding offered
@@ -171,7 +169,7 @@ module _ {s : Suite} {d : Directory} (h : Held s d) (set : ℕ) (enough : s.read
     unfolding offered
     side-found =
         let w = won h set enough (λ (b : Side). b.version) F.side no_side in
-        subst (λ (b : Side). FoundEnd h.ideal W.z W.End b.version (bound_or (best (nearer F.rank) Nothing (map (F.offer b) (chosen (tiles s) set)))))
+        subst (λ (b : Side). FoundEnd h.ideal W.z W.End b.version (bound_or (best (nearer F.rank) None (map (F.offer b) (chosen (tiles s) set)))))
         (sym w.2) (finished w.0 w.1)
 
   module _ (x : ℕ) (name : x ≤ largest_name) where
@@ -192,12 +190,12 @@ module _ {s : Suite} {d : Directory} (h : Held s d) (set : ℕ) (enough : s.read
     unfolding way_below
     near-below =
         let F = facing_below x name in
-        subst₂ (λ (b : List Side) (o : List Offer). FoundEnd h.ideal (space_above x) (λ f. LowerEnd f (place (suc x))) (best higher no_side b).version (bound_or (best (nearer rank_below) Nothing o)))
+        subst₂ (λ (b : List Side) (o : List (Option Bound)). FoundEnd h.ideal (space_above x) (λ f. LowerEnd f (place (suc x))) (best higher no_side b).version (bound_or (best (nearer rank_below) None o)))
         (sym (of_round_one its_below (λ m. below_of m x) (λ m. refl) (λ b a m. refl))) (sym (offers-are F s set)) (side-found F (way_below x name))
 
     pub near-above : FoundEnd h.ideal (space_above (suc x)) (λ f. UpperEnd hi_place f (place (suc x))) (gap_above_in (rounds s set x)).version (successor (rounds s set x))
     unfolding way_above
     near-above =
         let F = facing_above x name in
-        subst₂ (λ (b : List Side) (o : List Offer). FoundEnd h.ideal (space_above (suc x)) (λ f. UpperEnd hi_place f (place (suc x))) (best higher no_side b).version (bound_or (best (nearer rank_above) Nothing o)))
+        subst₂ (λ (b : List Side) (o : List (Option Bound)). FoundEnd h.ideal (space_above (suc x)) (λ f. UpperEnd hi_place f (place (suc x))) (best higher no_side b).version (bound_or (best (nearer rank_above) None o)))
         (sym (of_round_one its_above (λ m. above_of m x) (λ m. refl) (λ b a m. refl))) (sym (offers-are F s set)) (side-found F (way_above x name))

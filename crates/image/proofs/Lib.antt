@@ -13,6 +13,5 @@ mod Reading
 mod Rows
 mod Words
 mod Voting
-mod Tiles
 mod Loads
 pub mod Determined

@@ -10,7 +10,7 @@ use lib.ListN.{length, drop, length-drop}
 use lib.Seq.{drop-drop}
 use Rattle.fields.specs.Bits.{field_bits, bits_of, field_at}
 use Rattle.fields.specs.Field.{fits_in, read_of, front_of}
-use Rattle.fields.specs.declared.Field.TheVariants.{Is, Short}
+use Rattle.std.specs.Prelude.{Some, None}
 use Rattle.fields.proofs.Bytes.{length-bits_of, bits_of_below}
 use Rattle.fields.proofs.Below.{below_drop}
 use Rattle.fields.proofs.Places.{field_at_lt, field_at-drop, split_field, drop_front, front_length}
@@ -78,11 +78,11 @@ matches_as m to from = record {
 
 -- ---- a field
 
-pub field_is : (image : List ℕ) (w at v : ℕ) → read_of image at w ≡ Is v → field image w at ≡ took v (at + w)
+pub field_is : (image : List ℕ) (w at v : ℕ) → read_of image at w ≡ Some v → field image w at ≡ took v (at + w)
 unfolding field
 field_is image w at v e = rw e
 
-pub field_short : (image : List ℕ) (w at : ℕ) → read_of image at w ≡ Short → field image w at ≡ fault 15
+pub field_short : (image : List ℕ) (w at : ℕ) → read_of image at w ≡ None → field image w at ≡ fault 15
 unfolding field
 field_short image w at e = rw e
 
@@ -92,7 +92,7 @@ module _ (image : List ℕ) (w : ℕ) (narrow : w ≤ 24) where
   unfolding bits_in
   field_back v at l h k =
       let b : drop at (bits_of image) ≡ field_bits w v ++ l = k.rest ∙ append_assoc (field_bits w v) [] l in
-      let e : read_of image at w ≡ Is v = read_from image at w (omega arith) k.within ∙ ap (front_of w) b ∙ front_field w v l h in
+      let e : read_of image at w ≡ Some v = read_from image at w (omega arith) k.within ∙ ap (front_of w) b ∙ front_field w v l h in
       let n : length (drop at (bits_of image)) ≡ w + length l = ap length b ∙ front_length w v l in
       let s : at + length (drop at (bits_of image)) ≡ 8 * length image = simp (length-drop, length-bits_of) (omega (arith, k.within)) in
       record {

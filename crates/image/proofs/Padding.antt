@@ -1,17 +1,19 @@
 -- What is left past the last field: fewer bits than a byte, all of them 0.
 -- Assumes nothing.
-use Prim.Native.Nat.{ℕ, ◌+◌, ◌-◌, ◌*◌, ◌/◌, ◌≤◌, ◌<◌}
+use Prim.Native.Nat.{ℕ, ◌-◌, ◌*◌, ◌≤◌, ◌<◌}
 use native.Mathlib.Omega.{arith}
 use mathlib.Core.Bool.{Bool, true, false, and-eq-true_iff}
 use mathlib.Core.Path.{◌≡◌, refl, sym, ap, ◌∙◌}
 use mathlib.Core.List.{List}
-use lib.ListN.{length, drop, replicate, length-replicate, length-drop}
+use lib.ListN.{length, take, drop, replicate, length-replicate, length-drop}
 use lib.Seq.{take_all}
 use lib.Dec.{ltb, eqb}
 use borrow.Author.Tests.{ltb-true, lt-ltb, le-ltb, eqb-true, eqb-false, eq-eqb}
 use Rattle.fields.specs.Bits.{num_of, bits_of, field_at, Below}
 use Rattle.fields.specs.Field.{read_of}
-use Rattle.fields.specs.declared.Field.TheVariants.{Is, Short}
+use Rattle.std.specs.Prelude.{Some}
+use Rattle.std.specs.Int.{div_ceil}
+use Rattle.std.specs.Option.{option_eq}
 use Rattle.fields.proofs.Below.{below_drop}
 use Rattle.fields.proofs.Width.{num_of-zero, zeros_of}
 use Rattle.fields.proofs.Bytes.{length-bits_of, bits_of_below}
@@ -54,27 +56,23 @@ module _ (image : List ℕ) (at : ℕ) (h : at ≤ 8 * length image) where
   left-length : length (drop at (bits_of image)) ≡ 8 * length image - at
   left-length = rw (length-drop at (bits_of image), length-bits_of image) refl
 
-  -- bytes follow
-  pub padding-long : (length image ≡ (at + 7) / 8 → ⊥) → false ≡ only_padding (drop at (bits_of image))
-  unfolding only_padding
-  padding-long k = let n : 8 ≤ length (drop at (bits_of image)) = rw left-length (omega arith) in rw (le-ltb (length (drop at (bits_of image))) 8 n)
+  module _ (last : ℕ) (whole : last ≡ div_ceil at 8) where
+    -- bytes follow
+    pub padding-long : (length image ≡ last → ⊥) → false ≡ only_padding (drop at (bits_of image))
+    unfolding only_padding
+    padding-long k = let n : 8 ≤ length (drop at (bits_of image)) = rw left-length (omega arith) in rw (le-ltb (length (drop at (bits_of image))) 8 n)
 
-  module _ (e : length image ≡ (at + 7) / 8) where
-    spare-is : read_of image at (8 * ((at + 7) / 8) - at) ≡ Is (field_at (bits_of image) at (8 * ((at + 7) / 8) - at))
-    spare-is = read_is image at (8 * ((at + 7) / 8) - at) (fits_yes (length image) at (8 * ((at + 7) / 8) - at) (omega arith) (omega arith))
-
-    -- the last bits are there
-    pub padding-there : read_of image at (8 * ((at + 7) / 8) - at) ≡ Short → ⊥
-    padding-there s = let q : Is (field_at (bits_of image) at (8 * ((at + 7) / 8) - at)) ≡ Short = sym spare-is ∙ s in let z : ◌≡◌ {A = ℕ} 0 1 = cc in omega arith
-
-    pub padding-test : (v : ℕ) → read_of image at (8 * ((at + 7) / 8) - at) ≡ Is v → eqb v 0 ≡ only_padding (drop at (bits_of image))
+    -- the last bits are there, and are looked at as one number
+    pub padding-test : length image ≡ last
+        → option_eq eqb (read_of image at (8 * last - at)) (Some 0) ≡ only_padding (drop at (bits_of image))
     unfolding only_padding field_at
-    padding-test v s =
+    padding-test e =
         let l = drop at (bits_of image) in
-        let w = 8 * ((at + 7) / 8) - at in
-        let q : Is (field_at (bits_of image) at w) ≡ Is v = sym spare-is ∙ s in
-        let p : field_at (bits_of image) at w ≡ v = cc in
+        let w = 8 * last - at in
+        let is : read_of image at w ≡ Some (field_at (bits_of image) at w) =
+        read_is image at w (fits_yes (length image) at w (omega arith) (omega arith))
+        in
         let n : length l ≤ w = rw left-length (omega arith) in
         let m : length l < 8 = rw left-length (omega arith) in
-        let f : num_of l ≡ v = ap num_of (sym (take_all w l n)) ∙ p in
-        rw (lt-ltb (length l) 8 m, zeros_test l (below_drop 2 at (bits_of image) (bits_of_below image)), f)
+        let f : num_of (take w l) ≡ num_of l = ap num_of (take_all w l n) in
+        rw (is, lt-ltb (length l) 8 m, zeros_test l (below_drop 2 at (bits_of image) (bits_of_below image)), f)

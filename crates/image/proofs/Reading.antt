@@ -6,7 +6,7 @@ use native.Mathlib.Nat.{sub-zero, suc-sub-suc}
 use mathlib.Core.Path.{◌≡◌, refl, sym, ap, ap₂, ◌∙◌}
 use mathlib.Core.List.{List, [], ◌∷◌, ◌++◌, append_assoc, append-nil}
 use lib.ListN.{length, get_or, take, drop, set, replicate, length-append}
-use lib.Seq.{set_at, take_at, drop-append-add, get_or-append_seam}
+use lib.Seq.{set_at, get_or-append_seam}
 use Rattle.image.specs.Reader.{Taken, took, fault, then, several, each}
 
 -- what is read next goes behind what was read before
@@ -75,7 +75,7 @@ module _ {A : Type 0} (read : ℕ → ℕ → Taken A) (next : A → ℕ) where
         let z : k - i ≡ 0 = omega (arith, s.few) in
         s.rest ∙ ap (λ (m : ℕ). behind done (several read next m x at)) z ∙ ap (λ (l : List A). took l at) (append-nil done)
 
--- ---- into an array of eight
+-- ---- into places that hold d
 
 -- a place more is taken, of n places of which those that are free hold d
 pub place_more : {A : Type 0} (n : ℕ) (done : List A) (d a : A) → length done < n
@@ -87,21 +87,30 @@ place_more n done d a h =
     ∙ ap (λ (k : ℕ). done ++ (a ∷ replicate (n - k) d)) (sym (length-append done (a ∷ [])))
     ∙ sym (append_assoc done (a ∷ []) (replicate (n - length (done ++ (a ∷ []))) d))
 
--- what is left of n places that hold d
+-- what is left of n places that hold d, and what the first k of them are
 pub drop-same : {A : Type 0} (d : A) (k n : ℕ) → drop k (replicate n d) ≡ replicate (n - k) d
 drop-same d zero n = ap (λ (i : ℕ). replicate i d) (sym (sub-zero n))
 drop-same d (suc k) zero = let e : 0 - suc k ≡ 0 = omega arith in rw e
 drop-same d (suc k) (suc n) = drop-same d k n ∙ ap (λ (i : ℕ). replicate i d) (sym (suc-sub-suc n k))
 
--- what was read stands in the lowest of eight places, d in the others
+pub take-same : {A : Type 0} (d : A) (k n : ℕ) → k ≤ n → take k (replicate n d) ≡ replicate k d
+take-same d zero n h = refl
+take-same d (suc k) zero h = absurd (omega arith)
+take-same d (suc k) (suc n) h = ap (λ l. d ∷ l) (take-same d k n (omega arith))
+
+-- what was read stands in the lowest of k places, d in the others
 pub record PlacesSoFar {A : Type 0} (read : ℕ → Taken A) (d : A) (k at₀ : ℕ) (places : List A) (at i : ℕ) : Type 0 where
   pub done : List A
-  pub holds : places ≡ done ++ replicate (8 - length done) d
+  pub holds : places ≡ done ++ replicate (k - length done) d
   pub so_far : SoFar (λ x. read) (λ a. 0) k 0 at₀ done 0 at i
 
-module _ {A : Type 0} (read : ℕ → Taken A) (d : A) (k at₀ : ℕ) (few : k ≤ 8) where
-  pub places-start : (places : List A) → places ≡ replicate 8 d → PlacesSoFar read d k at₀ places at₀ 0
-  places-start places e = record { done = []; holds = e; so_far = far-start (λ x. read) (λ a. 0) k 0 at₀ }
+module _ {A : Type 0} (read : ℕ → Taken A) (d : A) (k at₀ : ℕ) where
+  pub places-start : (places : List A) → places ≡ replicate k d → PlacesSoFar read d k at₀ places at₀ 0
+  places-start places e = record {
+    done = [];
+    holds = e ∙ ap (λ (n : ℕ). replicate n d) (sym (sub-zero k));
+    so_far = far-start (λ x. read) (λ a. 0) k 0 at₀;
+  }
 
   module _ (places : List A) (at i : ℕ) (s : PlacesSoFar read d k at₀ places at i) where
     pub places-more : (n : ℕ) (a : A) → i < k → took a n ≡ read at → PlacesSoFar read d k at₀ (set places i a) n (i + 1)
@@ -109,47 +118,26 @@ module _ {A : Type 0} (read : ℕ → Taken A) (d : A) (k at₀ : ℕ) (few : k 
       done = s.done ++ (a ∷ []);
       holds =
           ap (λ (l : List A). set l i a) s.holds
-          ∙ ap (λ (j : ℕ). set (s.done ++ replicate (8 - length s.done) d) j a) (sym s.so_far.many)
-          ∙ place_more 8 s.done d a (omega (arith, s.so_far.many));
+          ∙ ap (λ (j : ℕ). set (s.done ++ replicate (k - length s.done) d) j a) (sym s.so_far.many)
+          ∙ place_more k s.done d a (omega (arith, s.so_far.many));
       so_far = far-more (λ x. read) (λ b. 0) k 0 at₀ s.done 0 at i n a s.so_far h e;
     }
 
     -- the next place is free
     pub places-next : (e : A) → i < k → get_or places i e ≡ d
     places-next e h =
-        let n : 8 - length s.done ≡ suc (8 - (i + 1)) = omega (arith, s.so_far.many) in
+        let n : k - length s.done ≡ suc (k - (i + 1)) = omega (arith, s.so_far.many) in
         ap (λ (l : List A). get_or l i e) s.holds
         ∙ ap₂ (λ (m j : ℕ). get_or (s.done ++ replicate m d) j e) n (sym s.so_far.many)
-        ∙ get_or-append_seam s.done d (replicate (8 - (i + 1)) d) e
+        ∙ get_or-append_seam s.done d (replicate (k - (i + 1)) d) e
 
-    pub places-fault : (f : ℕ) → i < k → fault f ≡ read at → each read k at₀ ≡ fault f
+    pub places-fault : (f : ℕ) → i < k → fault f ≡ read at → fault f ≡ each read k at₀
     unfolding each
-    places-fault f h e = far-fault (λ x. read) (λ a. 0) k 0 at₀ s.done 0 at i f s.so_far h e
+    places-fault f h e = sym (far-fault (λ x. read) (λ a. 0) k 0 at₀ s.done 0 at i f s.so_far h e)
 
-    pub places-end : k ≤ i → each read k at₀ ≡ took (take k places) at
+    pub places-end : k ≤ i → took places at ≡ each read k at₀
     unfolding each
     places-end h =
-        let e : length s.done ≡ k = omega (arith, s.so_far.many, s.so_far.few) in
-        far-end (λ x. read) (λ a. 0) k 0 at₀ s.done 0 at i s.so_far h
-        ∙ ap (λ (l : List A). took l at)
-        (sym (ap (take k) s.holds ∙ take_at s.done (replicate (8 - length s.done) d) k e))
-
-    -- the places are those that were taken, and d
-    pub places-are : k ≤ i → places ≡ take k places ++ replicate (8 - length (take k places)) d
-    places-are h =
-        let e : length s.done ≡ k = omega (arith, s.so_far.many, s.so_far.few) in
-        s.holds
-        ∙ ap (λ (l : List A). l ++ replicate (8 - length l) d)
-        (sym (ap (take k) s.holds ∙ take_at s.done (replicate (8 - length s.done) d) k e))
-
-    -- no place past the first k was taken
-    pub places-free : drop k places ≡ replicate (8 - k) d
-    places-free =
-        let j = k - length s.done in
-        let e : k ≡ length s.done + j = omega (arith, s.so_far.many, s.so_far.few) in
-        let m : 8 - length s.done - j ≡ 8 - k = omega (arith, s.so_far.many, s.so_far.few) in
-        ap (drop k) s.holds
-        ∙ ap (λ (h : ℕ). drop h (s.done ++ replicate (8 - length s.done) d)) e
-        ∙ drop-append-add s.done (replicate (8 - length s.done) d) j
-        ∙ drop-same d j (8 - length s.done)
-        ∙ ap (λ (h : ℕ). replicate h d) m
+        let z : k - length s.done ≡ 0 = omega (arith, s.so_far.many, s.so_far.few) in
+        ap (λ (l : List A). took l at) (s.holds ∙ ap (λ (n : ℕ). s.done ++ replicate n d) z ∙ append-nil s.done)
+        ∙ sym (far-end (λ x. read) (λ a. 0) k 0 at₀ s.done 0 at i s.so_far h)

@@ -1,4 +1,4 @@
--- Reading the entries of a member into a fresh tile, one place after another.
+-- Reading the entries of a member into a fresh member, one place after another.
 -- Assumes nothing.
 use Prim.Native.Nat.{ℕ, ◌+◌, ◌-◌, ◌*◌, ◌≤◌, ◌<◌, min}
 use native.Mathlib.Nat.{min-eq_left}
@@ -10,7 +10,7 @@ use Rattle.member.specs.Limits.{slots}
 use Rattle.member.specs.Tile.{none, fresh_tile}
 use Rattle.member.specs.declared.Row.{Row}
 use Rattle.member.specs.declared.Member.{Member}
-use Rattle.tile.specs.Cells.{with_row, with_low, with_count}
+use Rattle.member.specs.Steps.{with_row, with_low, with_count}
 use Rattle.image.specs.Reader.{took, fault, then, read_row, read_rows, above, tile_with}
 use Rattle.image.proofs.Reading.{SoFar, far-start, far-more, far-fault, far-end, place_more}
 

@@ -4,12 +4,14 @@
 use Prim.Native.Nat.{ℕ, ◌+◌, ◌-◌, ◌*◌, ◌/◌, ◌%◌, ◌^◌, ◌≤◌, ◌<◌}
 use native.Mathlib.Omega.{arith}
 use mathlib.Core.Path.{◌≡◌, sym, ap, ap₂, subst, ◌∙◌}
+use mathlib.Core.Logic.{◌⊎◌, inl, inr}
 use mathlib.Core.List.{List, ◌++◌, append_assoc, append-nil}
 use lib.ListN.{length, drop, replicate, length-append}
 use lib.Dec.{leb}
+use borrow.Author.Tests.{le-leb, lt-leb}
 use Rattle.fields.specs.Bits.{field_bits}
 use Rattle.fields.specs.Field.{read_of, word_of, append_of, after_of}
-use Rattle.fields.specs.declared.Field.TheVariants.{Is}
+use Rattle.std.specs.Prelude.{Some}
 use Rattle.fields.proofs.Width.{length-field_bits, field_bits_add, field_bits_low, field_bits-above, field_bits_join, last_bits}
 use Rattle.fields.proofs.Answers.{word_read, read_split, has_yes, length-append_of, length-after_of, append_of-below, after_of-below}
 use Rattle.fields.proofs.Filling.{filled-append, filled-after}
@@ -17,7 +19,7 @@ use Rattle.fields.proofs.Reread.{read_range}
 use Rattle.member.specs.Change.{row_with}
 use Rattle.member.specs.declared.Row.{Row}
 use Rattle.image.specs.Layout.{row_pieces, bits_in, widths}
-use Rattle.image.specs.Reader.{Taken, took, then, judged, read_row}
+use Rattle.image.specs.Reader.{Taken, took, fault, then, judged, read_row}
 use Rattle.image.specs.Writer.{Appended}
 use Rattle.image.proofs.Matching.{field_is}
 use Rattle.image.proofs.Lengths.{length-bits_in, row_widths}
@@ -25,7 +27,7 @@ use Rattle.image.proofs.Putting.{holds_more}
 
 -- ---- read
 
-pub word_range : (image : List ℕ) (at w v : ℕ) → word_of image at w ≡ Is v → v < 2 ^ w
+pub word_range : (image : List ℕ) (at w v : ℕ) → word_of image at w ≡ Some v → v < 2 ^ w
 word_range image at w v e = read_range image at w v (word_read image at w v e)
 
 -- what they say of an entry whose name is x or greater
@@ -35,7 +37,13 @@ row_in x at high rest =
     (judged (leb 1 (high % 16777216)) 17
     (took (row_with (high / 16777216) (high % 16777216) (rest / 16777216 % 65536) (rest % 16777216)) (at + 84)))
 
-pub words_row : (image : List ℕ) (at x high rest : ℕ) → word_of image at 44 ≡ Is high → word_of image (at + 36) 48 ≡ Is rest
+-- a name below x, or no version
+pub row_low : (x at high rest : ℕ) → (high / 16777216 < x) ⊎ ((x ≤ high / 16777216) × (high % 16777216 ≡ 0)) → fault 17 ≡ row_in x at high rest
+unfolding judged
+row_low x at high rest (inl h) = rw (lt-leb x (high / 16777216) h)
+row_low x at high rest (inr p) = rw (le-leb x (high / 16777216) p.0, lt-leb 1 (high % 16777216) (omega arith))
+
+pub words_row : (image : List ℕ) (at x high rest : ℕ) → word_of image at 44 ≡ Some high → word_of image (at + 36) 48 ≡ Some rest
     → read_row image 20 x at ≡ row_in x at high rest
 unfolding read_row then
 words_row image at x high rest h k =
@@ -46,11 +54,11 @@ words_row image at x high rest h k =
     let value : rest % 2 ^ 40 / 2 ^ 24 ≡ rest / 16777216 % 65536 = omega arith in
     let gap : rest % 2 ^ 40 % 2 ^ 24 ≡ rest % 16777216 = omega arith in
     let end : at + 20 + 24 + 16 + 24 ≡ at + 84 = omega arith in
-    let third : read_of image (at + 20 + 24) 16 ≡ Is (rest / 16777216 % 65536) =
-    subst (λ (n : ℕ). read_of image n 16 ≡ Is (rest % 2 ^ 40 / 2 ^ 24)) e r.0 ∙ ap Is value
+    let third : read_of image (at + 20 + 24) 16 ≡ Some (rest / 16777216 % 65536) =
+    subst (λ (n : ℕ). read_of image n 16 ≡ Some (rest % 2 ^ 40 / 2 ^ 24)) e r.0 ∙ ap Some value
     in
-    let fourth : read_of image (at + 20 + 24 + 16) 24 ≡ Is (rest % 16777216) =
-    subst (λ (n : ℕ). read_of image (n + 16) 24 ≡ Is (rest % 2 ^ 40 % 2 ^ 24)) e r.1 ∙ ap Is gap
+    let fourth : read_of image (at + 20 + 24 + 16) 24 ≡ Some (rest % 16777216) =
+    subst (λ (n : ℕ). read_of image (n + 16) 24 ≡ Some (rest % 2 ^ 40 % 2 ^ 24)) e r.1 ∙ ap Some gap
     in
     rw (
       field_is image 20 at (high / 16777216) p.0,

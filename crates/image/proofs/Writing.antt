@@ -1,15 +1,14 @@
 -- The writer as a whole: every field of a suite, appended from the first bit on, and the image copied into the lent bytes.
 -- Assumes nothing.
-use Prim.Native.Nat.{ℕ, zero, suc, ◌+◌, ◌-◌, ◌*◌, ◌/◌, ◌%◌, ◌^◌, ◌≤◌, ◌<◌}
+use Prim.Native.Nat.{ℕ, zero, suc, ◌+◌, ◌-◌, ◌*◌, ◌/◌, ◌≤◌, ◌<◌}
 use native.Mathlib.Omega.{arith}
 use mathlib.Core.Path.{◌≡◌, refl, sym, ap, subst, ◌∙◌}
 use mathlib.Core.List.{List, [], ◌∷◌, ◌++◌, flat_map}
 use lib.ListN.{length, take, drop, replicate, length-replicate}
 use borrow.Author.Tests.{le-leb, lt-leb}
-use Rattle.fields.specs.Bits.{append_bits, bytes_for}
+use Rattle.fields.specs.Bits.{bytes_for}
 use Rattle.fields.specs.Field.{append_of}
 use Rattle.fields.proofs.Below.{below_zeros}
-use Rattle.fields.proofs.Width.{field_bits_low}
 use Rattle.fields.proofs.Answers.{length-append_of}
 use Rattle.fields.proofs.Filling.{filled_none, filled-packed}
 use Rattle.suite.specs.Suite.{tiles, ballots}
@@ -30,14 +29,9 @@ take_used n k l e = ap (λ (i : ℕ). take i l) e ∙ go n l
     go (suc m) [] = refl
     go (suc m) (x ∷ b) = ap (λ t. x ∷ t) (go m b)
 
--- a field keeps the lowest bits of its number
-append_low : (bytes : List ℕ) (at w v : ℕ) → append_of bytes at w (v % 2 ^ w) ≡ append_of bytes at w v
-unfolding append_of append_bits
-append_low bytes at w v = rw (field_bits_low w v)
-
 pub suite_put : (s : Suite) (bytes b₁ b₂ b₃ head after done : List ℕ) (n less next end : ℕ) → 128 ≤ 8 * length bytes → n ≡ length (tiles s)
     → n ≡ length (ballots s)
-    → less ≡ (s.count - 1) % 8
+    → less ≡ s.count - 1
     → b₁ ≡ append_of bytes 0 4 1
     → b₂ ≡ append_of b₁ 4 3 less
     → b₃ ≡ append_of b₂ 7 7 s.read
@@ -54,7 +48,7 @@ suite_put s bytes b₁ b₂ b₃ head after done n less next end room et eb el e
     let fm : flat_map (member_pieces 20) (take n s.members) ≡ members = ap (flat_map (member_pieces 20)) (take_used s.count n s.members et) in
     let nv : next ≡ 21 + widths votes = en ∙ ap (λ (l : List Piece). 21 + widths l) fv in
     let nm : end ≡ next + widths members = ee ∙ ap (λ (l : List Piece). next + widths l) fm in
-    let low : b₂ ≡ append_of b₁ 4 3 (s.count - 1) = e₂ ∙ ap (append_of b₁ 4 3) el ∙ append_low b₁ 4 3 (s.count - 1) in
+    let low : b₂ ≡ append_of b₁ 4 3 (s.count - 1) = e₂ ∙ ap (append_of b₁ 4 3) el in
     let l₁ : length b₁ ≡ length bytes = ap length e₁ ∙ length-append_of bytes 0 4 1 in
     let l₂ : length b₂ ≡ length b₁ = ap length low ∙ length-append_of b₁ 4 3 (s.count - 1) in
     let l₃ : length b₃ ≡ length b₂ = ap length e₃ ∙ length-append_of b₂ 7 7 s.read in

@@ -1,26 +1,22 @@
 -- The rules paper, "Suite image": the reader goes in field order and its first fault decides.
-use Rattle.std.specs.Prelude.{List, [], ◌∷◌, ◌++◌, map, Bool, true, false, cond, ◌&&◌, ℕ, zero, suc, ◌+◌, ◌-◌, length, drop, replicate, leb, ltb, eqb}
+use Rattle.std.specs.Prelude as prelude
+use Rattle.std.specs.Prelude.{Option, Some, None, Ok, Err, List, [], ◌∷◌, ◌++◌, Bool, true, false, cond, ◌&&◌, ℕ, zero, suc, ◌+◌, ◌-◌, length, drop, replicate, leb, ltb, eqb}
 use Rattle.fields.specs.Bits.{bits_of}
 use Rattle.fields.specs.Field.{read_of}
-use Rattle.fields.specs.declared.Field.{Field}
-use Rattle.fields.specs.declared.Field.TheVariants.{Is, Short}
 use Rattle.member.specs.Limits.{slots}
 use Rattle.member.specs.Tile.{none, fresh_tile}
 use Rattle.member.specs.Change.{row_with}
 use Rattle.member.specs.declared.Row.{Row}
 use Rattle.member.specs.declared.Member.{Member}
 use Rattle.suite.specs.Sets.{total, all}
-use Rattle.suite.specs.Suite.{quorum, frame_of}
+use Rattle.suite.specs.Suite.{quorum}
 use Rattle.suite.specs.Outcome.{Outcome, answered, refused, number_of}
 use Rattle.suite.specs.Calls.{Result}
 use Rattle.suite.specs.Create.{fresh_suite, blank}
 use Rattle.suite.specs.declared.Suite.{Suite}
-use Rattle.suite.specs.declared.Frame.{Frame}
-use Rattle.tile.specs.Lent.{tile_in}
+use Rattle.suite.specs.declared.Refusal.{Refusal}
+use Rattle.suite.specs.declared.Suite.{Suite}
 use Rattle.image.specs.Layout.{edition, name_width}
-use Rattle.image.specs.declared.Loading.{Loading}
-use Rattle.image.specs.declared.Loading.TheVariants as loading
-use Rattle.image.specs.declared.Loaded.{Loaded}
 
 -- what was read, and the bit at which the next field starts; or the number of the first fault
 pub data Taken (A : Type 0) : Type 0 where
@@ -31,9 +27,9 @@ pub data Taken (A : Type 0) : Type 0 where
 unfoldable pub field : List ℕ → ℕ → ℕ → Taken ℕ
 field image w at = given (read_of image at w)
   where
-    given : Field → Taken ℕ
-    given (Is v) = took v (at + w)
-    given Short = fault 15
+    given : Option ℕ → Taken ℕ
+    given (Some v) = took v (at + w)
+    given None = fault 15
 
 -- what follows is read from there on, unless there was a fault
 unfoldable pub then : {A B : Type 0} → Taken A → (A → ℕ → Taken B) → Taken B
@@ -140,27 +136,18 @@ ended image (fault n) = not_loaded n
 unfoldable pub read_image : List ℕ → Result
 read_image image = ended image (read_suite image name_width 0)
 
-abbrev pub loading_of : Loading → Outcome
-loading_of loading.Done = answered []
-loading_of (loading.No r) = refused (number_of r)
+abbrev pub loading_of : prelude.Result Unit Refusal → Outcome
+loading_of (Ok u) = answered []
+loading_of (Err r) = refused (number_of r)
 
--- what loading comes to: the outcome, the suite without its members, and the members that the lent tiles then hold
-pub record Load : Type 0 where
-  pub outcome : Outcome
-  pub frame : Frame
-  pub members : List Member
-
--- what stands beside a refusal
-abbrev pub no_frame : Frame
-no_frame = record { votes = replicate 8 0; read = 0; write = 0; count = 0 }
-
--- Loading replaces the whole suite; a refusal leaves the tiles as they were.
-unfoldable pub load_of : List ℕ → List (List ℕ) → Load
-load_of image lent = loads (read_image image).outcome (read_image image).suite
+-- Loading replaces the whole suite; a refusal leaves it as it was.
+unfoldable pub load_of : List ℕ → Suite → Result
+load_of image before = loads (read_image image).outcome (read_image image).suite
   where
-    loads : Outcome → Suite → Load
-    loads (answered vs) s = record { outcome = answered vs; frame = frame_of s; members = s.members }
-    loads (refused n) s = record { outcome = refused n; frame = no_frame; members = map tile_in lent }
+    loads : Outcome → Suite → Result
+    loads (answered vs) s = record { outcome = answered vs; suite = s }
+    loads (refused n) s = record { outcome = refused n; suite = before }
 
-abbrev pub loaded_in : Loaded → List (List ℕ) → Load
-loaded_in r lent = record { outcome = loading_of r.answer; frame = r.frame; members = map tile_in lent }
+-- what loading answers, with the suite that the directory holds afterwards
+abbrev pub loaded_in : prelude.Result Unit Refusal → Suite → Result
+loaded_in r d = record { outcome = loading_of r; suite = d }

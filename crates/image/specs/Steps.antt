@@ -1,24 +1,32 @@
 -- What the reader's own steps answer.
-use Rattle.std.specs.Prelude.{ℕ, ◌≤◌}
-use Rattle.member.specs.declared.Row.{Row}
+use Rattle.std.specs.Prelude.{ℕ, ◌≤◌, Result, Ok, Err}
 use Rattle.suite.specs.Outcome.{number_of}
-use Rattle.image.specs.Reader.{Taken, took, fault}
-use Rattle.image.specs.declared.entries.Entry.{Entry}
-use Rattle.image.specs.declared.entries.Entry.TheVariants as entry
-use Rattle.image.specs.declared.reader.Place.{Place}
-use Rattle.image.specs.declared.reader.Place.TheVariants as place
+use Rattle.suite.specs.Calls as calls
+use Rattle.suite.specs.declared.Refusal.{Refusal}
+use Rattle.suite.specs.declared.Suite.{Suite}
+use Rattle.image.specs.Reader.{Taken, took, fault, loaded, not_loaded}
 
--- an entry that ends at bit n
-abbrev pub entry_of : Entry → ℕ → Taken Row
-entry_of (entry.Is r) n = took r n
-entry_of (entry.No f) n = fault (number_of f)
+-- what was read, which ends at bit n
+abbrev pub taken_of : {A : Type 0} → Result A Refusal → ℕ → Taken A
+taken_of (Ok a) n = took a n
+taken_of (Err f) n = fault (number_of f)
 
--- a, up to a place
-abbrev pub placed_of : {A : Type 0} → Place → A → Taken A
-placed_of (place.At n) a = took a n
-placed_of (place.No f) a = fault (number_of f)
+-- a, up to the place that was answered
+abbrev pub placed_of : {A : Type 0} → Result ℕ Refusal → A → Taken A
+placed_of (Ok n) a = took a n
+placed_of (Err f) a = fault (number_of f)
+
+-- a, which ends at bit n
+abbrev pub passed_of : {A : Type 0} → Result Unit Refusal → A → ℕ → Taken A
+passed_of (Ok u) a n = took a n
+passed_of (Err f) a n = fault (number_of f)
 
 -- the place is at most bit n
-abbrev pub ends_by : Place → ℕ → Type 0
-ends_by (place.At m) n = m ≤ n
-ends_by (place.No f) n = Unit {0}
+abbrev pub ends_by : Result ℕ Refusal → ℕ → Type 0
+ends_by (Ok m) n = m ≤ n
+ends_by (Err f) n = Unit {0}
+
+-- s whole, or the refusal
+abbrev pub ended_of : Result Unit Refusal → Suite → calls.Result
+ended_of (Ok u) s = loaded s
+ended_of (Err f) s = not_loaded (number_of f)

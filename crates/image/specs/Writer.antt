@@ -1,12 +1,11 @@
 -- The writer: what it appends, and what it leaves in the bytes that a caller lends.
-use Rattle.std.specs.Prelude.{◌≡◌, List, [], ◌∷◌, ◌++◌, cond, ℕ, ◌-◌, ◌*◌, length, drop, replicate, leb}
+use Rattle.std.specs.Prelude.{◌≡◌, List, [], ◌∷◌, ◌++◌, cond, ℕ, ◌-◌, ◌*◌, length, drop, replicate, leb, Result, Ok, Err}
 use Rattle.fields.specs.Bits.{bits_of, Below}
 use Rattle.suite.specs.Suite.{sound_suite}
 use Rattle.suite.specs.Outcome.{Outcome, answered, refused, number_of}
+use Rattle.suite.specs.declared.Refusal.{Refusal}
 use Rattle.suite.specs.declared.Suite.{Suite}
 use Rattle.image.specs.Layout.{Piece, bits_in, widths, image_of}
-use Rattle.image.specs.declared.Written.{Written}
-use Rattle.image.specs.declared.Written.TheVariants as written
 
 -- the bytes hold these fields, and zero bits behind them
 abbrev pub Holds : List ℕ → List Piece → Type 0
@@ -22,11 +21,11 @@ pub record Lent : Type 0 where
   pub outcome : Outcome
   pub bytes : List ℕ
 
-abbrev pub written_of : Written → Outcome
-written_of (written.Done n) = answered (n ∷ [])
-written_of (written.No r) = refused (number_of r)
+abbrev pub written_of : Result ℕ Refusal → Outcome
+written_of (Ok n) = answered (n ∷ [])
+written_of (Err r) = refused (number_of r)
 
-abbrev pub lent_of : Written → List ℕ → Lent
+abbrev pub lent_of : Result ℕ Refusal → List ℕ → Lent
 lent_of r bytes = record { outcome = written_of r; bytes = bytes }
 
 abbrev pub untouched : ℕ → List ℕ → Lent

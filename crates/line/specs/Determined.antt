@@ -1,55 +1,31 @@
 -- Any two outcomes that the contract of a public function allows are equal: a theorem for each, with the contract's own text.
-use Rattle.std.specs.Prelude.{◌≡◌, List, ℕ}
-use Rattle.std.proofs.Common.{sym, ◌∙◌}
-use Rattle.member.specs.Determined.{Determines}
-use Rattle.directory.specs.Lent.{suite_in}
-use Rattle.directory.specs.Determined.{Tiles, one_suite}
+use Rattle.std.specs.Prelude.{◌≡◌, Option, None, Some, List, true, false, ℕ}
+use Rattle.std.proofs.Common.{refl, sym, ap, ◌∙◌}
+use Rattle.suite.specs.declared.Suite.{Suite}
 use Rattle.text.specs.declared.Reply.{Reply}
-use Rattle.suite.specs.declared.Frame.{Frame}
-use Rattle.line.specs.Standing.{accepted, answer_of}
-use Rattle.line.specs.Lent.{standing_in, answer_in, reply_in, fresh_state}
-use Rattle.line.specs.declared.State.{State}
-use Rattle.line.specs.declared.Said.{Said}
+use Rattle.line.specs.Standing.{Standing, Answer, accepted, answer_of}
+use Rattle.line.specs.Lent.{standing_in, answer_in, reply_in}
 
-pub fresh_determined : Determines (λ r. r ≡ fresh_state)
-fresh_determined r r' p q = p ∙ sym q
+-- no two suites are one standing
+pub one_standing : (t t' : Option Suite) → standing_in t ≡ standing_in t' → t ≡ t'
+one_standing None None e = refl
+one_standing None (Some s) e = absurd (let z : false ≡ true = ap (λ (s : Standing). s.made) e in cc)
+one_standing (Some s) None e = absurd (let z : true ≡ false = ap (λ (s : Standing). s.made) e in cc)
+one_standing (Some s) (Some s') e = λ j. Some (e j).suite
 
--- an answer says the reply and all of the state
-said_told : (r r' : Said) (l l' : List (List ℕ)) → answer_in r l ≡ answer_in r' l' → r ≡ r'
-said_told r r' l l' e =
-    λ j. record {
-      reply = (e j).reply;
-      state = record {
-        made = (e j).standing.made;
-        frame = record {
-          votes = (e j).standing.suite.votes;
-          read = (e j).standing.suite.read;
-          write = (e j).standing.suite.write;
-          count = (e j).standing.suite.count;
-        };
-      };
-    }
+-- a contract allows one reply at most, and a call to leave one suite at most
+pub reply_determined : (s : Suite) (line : List ℕ) (r r' : Reply) (e e' : Suite)
+    → reply_in r e ≡ answer_of (accepted s) line
+    → reply_in r' e' ≡ answer_of (accepted s) line
+    → (r ≡ r') × (e ≡ e')
+reply_determined s line r r' e e' p q =
+    let t = p ∙ sym q in
+    (ap (λ (a : Answer). a.reply) t, ap (λ (a : Answer). a.standing.suite) t)
 
--- and the members in the lent tiles
-members_told : (r r' : Said) (l l' : List (List ℕ)) → answer_in r l ≡ answer_in r' l'
-    → suite_in r.state.frame l ≡ suite_in r.state.frame l'
-members_told r r' l l' e =
-    let f = r.state.frame in
-    λ j. record { members = (e j).standing.suite.members; votes = f.votes; read = f.read; write = f.write; count = f.count }
-
--- a contract allows one answer at most, and the cells that a call leaves in lent memory to be one list at most
-abbrev pub Leaves : (A : Type 0) → (A → List (List ℕ) → Type 0) → Type 0
-Leaves A allows =
-    (r r' : A) (l l' : List (List ℕ)) → Tiles l → Tiles l' → allows r l → allows r' l' → (r ≡ r') × (l ≡ l')
-
-pub reply_determined : (frame : Frame) (lent : List (List ℕ)) (line : List ℕ)
-    → Leaves Reply (λ r exit. reply_in frame r exit ≡ answer_of (accepted (suite_in frame lent)) line)
-reply_determined frame lent line r r' l l' h k p q =
-    let e = p ∙ sym q in
-    (λ j. (e j).reply, one_suite frame l l' h k (λ j. (e j).standing.suite))
-
-pub answer_determined : (state : State) (lent : List (List ℕ)) (line : List ℕ)
-    → Leaves Said (λ r exit. answer_in r exit ≡ answer_of (standing_in state lent) line)
-answer_determined state lent line r r' l l' h k p q =
-    let e = p ∙ sym q in
-    (said_told r r' l l' e, one_suite r.state.frame l l' h k (members_told r r' l l' e))
+pub answer_determined : (t : Option Suite) (line : List ℕ) (r r' : Reply) (u u' : Option Suite)
+    → answer_in r u ≡ answer_of (standing_in t) line
+    → answer_in r' u' ≡ answer_of (standing_in t) line
+    → (r ≡ r') × (u ≡ u')
+answer_determined t line r r' u u' p q =
+    let s = p ∙ sym q in
+    (ap (λ (a : Answer). a.reply) s, one_standing u u' (ap (λ (a : Answer). a.standing) s))

@@ -1,14 +1,11 @@
 -- Laws of what a line is answered.
-use Rattle.std.specs.Prelude.{◌≡◌, refl, List, [], ◌∷◌, Bool, true, false, ◌&&◌, ℕ, zero, suc, ◌<◌, ◌≤◌, length, take, leb, ltb}
+use Rattle.std.specs.Prelude.{◌≡◌, refl, List, [], ◌∷◌, Option, None, Some, Bool, true, false, ◌&&◌, ℕ, zero, suc, ◌<◌, ◌≤◌, length, take, leb, ltb}
 use Rattle.std.proofs.Common.{sym, arith, length-take, le-leb, ltb-true, ltb-false}
 use Rattle.std.proofs.Math.Path.{ap}
 use Rattle.std.proofs.Math.Bool.{cond}
-use Rattle.std.proofs.Math.Option.{Option, none, some}
 use Rattle.std.proofs.lemmas.Bool.{lt-leb}
-use Rattle.text.specs.Line.{padded, created as suite_line, not_understood, longest_line, command_of}
-use Rattle.text.specs.declared.Command.{Command}
-use Rattle.text.specs.declared.Command.TheVariants as command
-use Rattle.text.specs.declared.Parsed.{Parsed}
+use Rattle.text.specs.Line.{padded, created as suite_line, longest_line, given_of, command_of, ballots_of}
+use Rattle.text.specs.declared.Creation.{Creation}
 use Rattle.suite.specs.Sets.{total, all}
 use Rattle.suite.specs.Suite.{small_vote, quorum, sound_suite}
 use Rattle.suite.specs.Outcome.{Outcome, answered, refused}
@@ -19,14 +16,14 @@ use Rattle.suite.specs.Create.{fresh_suite, not_created, create_of}
 use Rattle.suite.specs.CreateLaws.{created-sound}
 use Rattle.suite.specs.declared.Suite.{Suite}
 use Rattle.line.specs.Standing.{Standing, Answer, call_for, on_suite, creation_for, created, without_suite, answer_of}
-use Rattle.line.specs.Lent.{standing_in, fresh_state}
+use Rattle.line.specs.Lent.{standing_in}
 
 module _ (t : Standing) (line : List ℕ) where
   abbrev pub on_accepted : Answer
-  on_accepted = on_suite t.suite (call_for t.suite (command_of line).command)
+  on_accepted = on_suite t.suite (call_for t.suite (command_of line))
 
   abbrev pub on_none : Answer
-  on_none = without_suite t (creation_for (command_of line) (command_of line).command)
+  on_none = without_suite t (creation_for (ballots_of line))
 
   -- once a suite has been accepted, and before
   pub answer-made : t.made ≡ true → answer_of t line ≡ on_accepted
@@ -45,12 +42,12 @@ kept_votes zero (v ∷ votes) h = absurd (omega arith)
 kept_votes (suc n) [] h = refl
 kept_votes (suc n) (v ∷ votes) h = ap (λ t. v ∷ t) (kept_votes n votes (omega arith))
 
-pub creation_all : (r w : ℕ) (votes : List ℕ) → creation_for (suite_line r w votes) (command.Suite r w) ≡ some (create_of r w votes)
+pub creation_all : (r w : ℕ) (votes : List ℕ) → creation_for (Some (suite_line r w votes)) ≡ Some (create_of r w votes)
 unfolding suite_line create_of
 creation_all r w votes = go (ltb 8 (length votes)) refl
   where
     go : (b : Bool) → ltb 8 (length votes) ≡ b
-        → ◌≡◌ {A = Option Result} (some (cond b (not_created 2) (create_of r w (take (length votes) (padded 8 votes))))) (some (create_of r w votes))
+        → ◌≡◌ {A = Option Result} (Some (cond b (not_created 2) (create_of r w (take (length votes) (padded 8 votes))))) (Some (create_of r w votes))
     go true h =
         let n : 8 < length votes = ltb-true 8 (length votes) h in
         rw (le-leb 1 (length votes) (omega arith), lt-leb (length votes) 8 n)
@@ -61,13 +58,13 @@ abbrev pub Fine : Standing → Type 0
 Fine t = t.made ≡ true → sound_suite t.suite ≡ true
 
 -- before any line none was
-pub fresh_fine : (l : List (List ℕ)) → Fine (standing_in fresh_state l)
-fresh_fine l h = not_both [] 0 (ap (λ (b : Bool). cond b (refused 0) (answered [])) h)
+pub fresh_fine : Fine (standing_in None)
+fresh_fine h = not_both [] 0 (ap (λ (b : Bool). cond b (refused 0) (answered [])) h)
 
 fine_on : (s : Suite) (c : Option Call) → sound_suite s ≡ true → Fine (on_suite s c).standing
 unfolding on_suite
-fine_on s none h m = h
-fine_on s (some c) h m = step_kept s c h
+fine_on s None h m = h
+fine_on s (Some c) h m = step_kept s c h
 
 -- a creation answers no values
 nothing_answered : (r w : ℕ) (votes vs : List ℕ) → (create_of r w votes).outcome ≡ answered vs → (create_of r w votes).outcome ≡ answered []
@@ -90,40 +87,44 @@ fine_created : (t : Standing) (s : Suite) (o : Outcome) → ((vs : List ℕ) →
 fine_created t s (answered vs) h f = λ m. h vs refl
 fine_created t s (refused n) h f = f
 
-fine_without : (t : Standing) (p : Parsed) (k : Command) → Fine t → Fine (without_suite t (creation_for p k)).standing
+fine_without : (t : Standing) (p : Option Creation) → Fine t → Fine (without_suite t (creation_for p)).standing
 unfolding without_suite
-fine_without t p (command.Suite r w) f = go (ltb 8 p.count)
+fine_without t (Some p) f = go (ltb 8 p.count)
   where
     chosen : Bool → Result
-    chosen b = cond b (not_created 2) (create_of r w (take p.count p.votes))
+    chosen b = cond b (not_created 2) (create_of p.read p.write (take p.count p.votes))
 
     go : (b : Bool) → Fine (created t (chosen b).suite (chosen b).outcome).standing
     go true = f
     go false =
         let votes = take p.count p.votes in
-        let c = create_of r w votes in
-        fine_created t c.suite c.outcome (λ vs h. created-sound r w votes (nothing_answered r w votes vs h)) f
-fine_without t p (command.Look rs x) f = f
-fine_without t p (command.Near rs x) f = f
-fine_without t p (command.Insert rs ws x v) f = f
-fine_without t p (command.Update rs ws x v) f = f
-fine_without t p (command.Remove rs ws x) f = f
-fine_without t p command.NotUnderstood f = f
+        let c = create_of p.read p.write votes in
+        fine_created t c.suite c.outcome (λ vs h. created-sound p.read p.write votes (nothing_answered p.read p.write votes vs h)) f
+fine_without t None f = f
 
 pub answer_kept : (t : Standing) (line : List ℕ) → Fine t → Fine (answer_of t line).standing
 answer_kept t line f = go t.made refl
   where
     go : (b : Bool) → t.made ≡ b → Fine (answer_of t line).standing
-    go true h = rw (answer-made t line h) (fine_on t.suite (call_for t.suite (command_of line).command) (f h))
-    go false h = rw (answer-unmade t line h) (fine_without t (command_of line) (command_of line).command f)
+    go true h = rw (answer-made t line h) (fine_on t.suite (call_for t.suite (command_of line)) (f h))
+    go false h = rw (answer-unmade t line h) (fine_without t (ballots_of line) f)
 
 -- "A line over 80 bytes (newline not counted) .. is 14": of a longer line its first 81 bytes say all
-long_command : (line : List ℕ) → 80 < length line → command_of line ≡ not_understood
-unfolding command_of longest_line
+long_command : (line : List ℕ) → 80 < length line → command_of line ≡ None
+unfolding command_of given_of longest_line
 long_command line h = rw (lt-leb (length line) 80 h)
+
+long_ballots : (line : List ℕ) → 80 < length line → ballots_of line ≡ None
+unfolding ballots_of given_of longest_line
+long_ballots line h = rw (lt-leb (length line) 80 h)
 
 pub long_line : (t : Standing) (line : List ℕ) → 81 ≤ length line → answer_of t line ≡ answer_of t (take 81 line)
 unfolding answer_of
 long_line t line h =
     let k : 80 < length (take 81 line) = simp length-take (omega arith) in
-    rw (long_command line (omega arith), long_command (take 81 line) k)
+    rw (
+      long_command line (omega arith),
+      long_command (take 81 line) k,
+      long_ballots line (omega arith),
+      long_ballots (take 81 line) k,
+    )

@@ -1,12 +1,11 @@
 -- What a line is answered, and what it leaves. The rules paper, "Line program".
-use Rattle.std.specs.Prelude.{ℕ, ◌-◌, ◌^◌, List, Bool, true, cond, length, take, get_or, ltb, eqb}
-use Rattle.std.proofs.Math.Option.{Option, none, some}
-use Rattle.text.specs.Line.{command_of}
+use Rattle.std.specs.Prelude.{ℕ, ◌-◌, ◌^◌, List, Option, None, Some, Bool, true, cond, length, take, get_or, ltb, eqb}
+use Rattle.text.specs.Line.{command_of, ballots_of}
 use Rattle.text.specs.declared.Members.{Members}
 use Rattle.text.specs.declared.Members.TheVariants.{Everyone, Only}
 use Rattle.text.specs.declared.Command.{Command}
 use Rattle.text.specs.declared.Command.TheVariants as command
-use Rattle.text.specs.declared.Parsed.{Parsed}
+use Rattle.text.specs.declared.Creation.{Creation}
 use Rattle.text.specs.declared.Reply.{Reply}
 use Rattle.text.specs.declared.Reply.TheVariants.{SuiteOk, Ok, Removed, At, Absent, Near, Refused}
 use Rattle.suite.specs.Suite.{ballots}
@@ -34,14 +33,14 @@ set_of votes Everyone = 2 ^ length votes - 1
 set_of votes (Only n) = n
 
 -- the call that a command makes on a suite; another `suite`, or a line of any other form, makes none
-abbrev pub call_for : Suite → Command → Option Call
-call_for s (command.Look rs x) = some (lookup (set_of (ballots s) rs) x)
-call_for s (command.Near rs x) = some (neighbours (set_of (ballots s) rs) x)
-call_for s (command.Insert rs ws x v) = some (insert (set_of (ballots s) rs) (set_of (ballots s) ws) x v)
-call_for s (command.Update rs ws x v) = some (update (set_of (ballots s) rs) (set_of (ballots s) ws) x v)
-call_for s (command.Remove rs ws x) = some (remove (set_of (ballots s) rs) (set_of (ballots s) ws) x)
-call_for s (command.Suite r w) = none
-call_for s command.NotUnderstood = none
+abbrev pub call_for : Suite → Option Command → Option Call
+call_for s (Some (command.Look rs x)) = Some (lookup (set_of (ballots s) rs) x)
+call_for s (Some (command.Near rs x)) = Some (neighbours (set_of (ballots s) rs) x)
+call_for s (Some (command.Insert rs ws x v)) = Some (insert (set_of (ballots s) rs) (set_of (ballots s) ws) x v)
+call_for s (Some (command.Update rs ws x v)) = Some (update (set_of (ballots s) rs) (set_of (ballots s) ws) x v)
+call_for s (Some (command.Remove rs ws x)) = Some (remove (set_of (ballots s) rs) (set_of (ballots s) ws) x)
+call_for s (Some (command.Suite r w)) = None
+call_for s None = None
 
 -- "`ok` shows the version, after `del` also requests; `at` version and value; `none` version; `near` predecessor (or LOW),
 -- successor (or HIGH), requests": of the values that a call answers
@@ -71,19 +70,13 @@ replied say (refused n) = Refused n
 
 -- on a suite that was accepted: "afterwards another `suite` is 14"
 unfoldable pub on_suite : Suite → Option Call → Answer
-on_suite s none = record { reply = Refused 14; standing = accepted s }
-on_suite s (some c) = record { reply = replied (spoken c) (step_of s c).outcome; standing = accepted (step_of s c).suite }
+on_suite s None = record { reply = Refused 14; standing = accepted s }
+on_suite s (Some c) = record { reply = replied (spoken c) (step_of s c).outcome; standing = accepted (step_of s c).suite }
 
--- the creation that a command asks for. A line's first eight votes are kept, with the count of all: over eight is refusal 2
-abbrev pub creation_for : Parsed → Command → Option Result
-creation_for p (command.Suite r w) =
-    some (cond (ltb 8 p.count) (not_created 2) (create_of r w (take p.count p.votes)))
-creation_for p (command.Look rs x) = none
-creation_for p (command.Near rs x) = none
-creation_for p (command.Insert rs ws x v) = none
-creation_for p (command.Update rs ws x v) = none
-creation_for p (command.Remove rs ws x) = none
-creation_for p command.NotUnderstood = none
+-- the creation that a line asks for. A line's first eight votes are kept, with the count of all: over eight is refusal 2
+abbrev pub creation_for : Option Creation → Option Result
+creation_for (Some p) = Some (cond (ltb 8 p.count) (not_created 2) (create_of p.read p.write (take p.count p.votes)))
+creation_for None = None
 
 -- "A refused `suite` may be tried again."
 abbrev pub created : Standing → Suite → Outcome → Answer
@@ -92,11 +85,10 @@ created t s (refused n) = record { reply = Refused n; standing = t }
 
 -- "`suite R W votes..` comes first and once; until one is accepted every other command is 14"
 unfoldable pub without_suite : Standing → Option Result → Answer
-without_suite t none = record { reply = Refused 14; standing = t }
-without_suite t (some r) = created t r.suite r.outcome
+without_suite t None = record { reply = Refused 14; standing = t }
+without_suite t (Some r) = created t r.suite r.outcome
 
 -- the answer to a line, its newline not among its bytes
 unfoldable pub answer_of : Standing → List ℕ → Answer
 answer_of t line =
-    cond t.made (on_suite t.suite (call_for t.suite (command_of line).command))
-    (without_suite t (creation_for (command_of line) (command_of line).command))
+    cond t.made (on_suite t.suite (call_for t.suite (command_of line))) (without_suite t (creation_for (ballots_of line)))

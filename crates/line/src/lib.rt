@@ -1,4 +1,4 @@
-// One command line in, its answer out, on a suite whose members stand in lent tiles.
+// One command line in, its answer out, on the suite that was accepted.
 #![tactic(auto)]
 
 mod commands;
@@ -6,59 +6,26 @@ mod creation;
 mod reply;
 
 ghost use Rattle.std.specs.Prelude.{◌≡◌};
-ghost use Rattle.directory.specs.Lent.{suite_in};
 ghost use Rattle.line.specs.Standing.{accepted, answer_of};
-ghost use Rattle.line.specs.Lent.{standing_in, answer_in, reply_in, fresh_state};
+ghost use Rattle.line.specs.Lent.{standing_in, answer_in, reply_in};
 
-use suite::Frame;
+use suite::Suite;
 use text::Reply;
-
-// Whether a suite has been accepted, and all of it but its members, which stand in lent tiles.
-#[derive(Clone, Copy)]
-pub struct State {
-    pub made: bool,
-    pub frame: Frame,
-}
-
-// What a line is answered, and the state after it.
-#[derive(Clone, Copy)]
-pub struct Said {
-    pub reply: Reply,
-    pub state: State,
-}
-
-impl State {
-    // Before any line.
-    pub fn fresh() -> State
-        ensures { result ≡ fresh_state }
-    {
-        let frame = Frame {
-            votes: [0; 8],
-            read: 0,
-            write: 0,
-            count: 0,
-        };
-        State { made: false, frame }
-    }
-}
 
 // The answer to one line on a suite that was accepted, for a holder that knows it to be sound: refusal 1 is judged once for
 // many lines.
-pub fn reply_unchecked(frame: Frame, lent: &mut [[u32; 130]; 8], line: &[u8]) -> Reply
-    ensures { reply_in frame result lent.new ≡ answer_of (accepted (suite_in frame lent.old)) line.now }
+pub fn reply_unchecked(suite: &mut Suite, line: &[u8]) -> Reply
+    ensures { reply_in result suite.new ≡ answer_of (accepted suite.old) line.now }
 {
-    let command = text::parse(line);
-    commands::carry_out(frame, lent, command)
+    commands::carry_out(suite, text::parse(line))
 }
 
-// The same whether a suite was accepted or not, with the state after it.
-pub fn answer_unchecked(state: State, lent: &mut [[u32; 130]; 8], line: &[u8]) -> Said
-    ensures { answer_in result lent.new ≡ answer_of (standing_in state lent.old) line.now }
+// The same whether a suite was accepted or not: until one is, nothing stands.
+pub fn answer_unchecked(standing: &mut Option<Suite>, line: &[u8]) -> Reply
+    ensures { answer_in result standing.new ≡ answer_of (standing_in standing.old) line.now }
 {
-    if state.made {
-        let frame = state.frame;
-        let reply = reply_unchecked(frame, lent, line);
-        return Said { reply, state };
+    if let Some(suite) = standing {
+        return reply_unchecked(suite, line);
     }
-    creation::creation(state, lent, text::ballots(line))
+    creation::begin(standing, text::ballots(line))
 }

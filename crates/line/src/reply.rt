@@ -4,7 +4,7 @@ ghost use Rattle.suite.specs.Outcome.{number_of, reading_values, looked_of, near
 ghost use Rattle.line.specs.Standing.{found, put, removed, near, replied};
 
 use member::Reading;
-use suite::{Change, Looked, Near, Refusal};
+use suite::{Done, Looked, Near, Refusal};
 use text::Reply;
 
 pub(crate) fn no(refusal: Refusal) -> Reply
@@ -16,15 +16,12 @@ pub(crate) fn no(refusal: Refusal) -> Reply
 }
 
 // After `look`.
-pub(crate) fn looked(answer: Looked) -> Reply
+pub(crate) fn looked(answer: Result<Looked, Refusal>) -> Reply
     ensures { result ≡ replied found (looked_of answer) }
 {
     match answer {
-        Looked::Is {
-            reading,
-            requests: _,
-        } => shown(reading),
-        Looked::No(refusal) => no(refusal),
+        Ok(looked) => shown(looked.reading),
+        Err(refusal) => no(refusal),
     }
 }
 
@@ -39,42 +36,43 @@ fn shown(reading: Reading) -> Reply
 }
 
 // After `near`.
-pub(crate) fn near(answer: Near) -> Reply
+pub(crate) fn near(answer: Result<Near, Refusal>) -> Reply
     ensures { result ≡ replied near (near_of answer) }
 {
     match answer {
-        Near::Is {
-            below,
-            above,
-            requests,
-        } => Reply::Near {
+        Ok(
+            Near {
+                below,
+                above,
+                requests,
+            },
+        ) => Reply::Near {
             below,
             above,
             requests,
         },
-        Near::No(refusal) => no(refusal),
+        Err(refusal) => no(refusal),
     }
 }
 
 // After `ins` and `upd`.
-pub(crate) fn put(answer: Change) -> Reply
+pub(crate) fn put(answer: Result<Done, Refusal>) -> Reply
     ensures { result ≡ replied put (change_of answer) }
 {
     match answer {
-        Change::Done {
-            version,
-            requests: _,
-        } => Reply::Ok { version },
-        Change::No(refusal) => no(refusal),
+        Ok(done) => Reply::Ok {
+            version: done.version,
+        },
+        Err(refusal) => no(refusal),
     }
 }
 
 // After `del`.
-pub(crate) fn removed(answer: Change) -> Reply
+pub(crate) fn removed(answer: Result<Done, Refusal>) -> Reply
     ensures { result ≡ replied removed (change_of answer) }
 {
     match answer {
-        Change::Done { version, requests } => Reply::Removed { version, requests },
-        Change::No(refusal) => no(refusal),
+        Ok(Done { version, requests }) => Reply::Removed { version, requests },
+        Err(refusal) => no(refusal),
     }
 }

@@ -5,7 +5,7 @@ pub mod Soundness
 pub mod Shift
 pub mod Changes
 pub mod Writes
-pub mod Steps
-pub mod Cleared
-pub mod CoalesceSteps
 pub mod Fits
+pub mod Halves
+pub mod Moves
+pub mod Removal

@@ -1,4 +1,6 @@
 -- What is left of round two, one entry less at a time.
+use Rattle.member.specs.declared.Bound.{Bound}
+use Rattle.std.specs.Prelude.{Option, Some, None}
 use mathlib.Core.Path.{◌≡◌, refl, ap, ◌∙◌}
 use mathlib.Core.List.{List, [], ◌∷◌, ◌++◌}
 use mathlib.Core.Bool.{Bool, cond}
@@ -15,22 +17,20 @@ use Rattle.member.specs.Search.{end_of, seat_in, next_in}
 use Rattle.member.specs.Rounds.{bare, bare_offer, offer_below_of, offer_above_of, offered, offer_of, last_offer, first_offer}
 use Rattle.member.specs.declared.Row.{Row}
 use Rattle.member.specs.declared.Member.{Member}
-use Rattle.member.specs.declared.Offer.{Offer}
-use Rattle.member.specs.declared.Offer.TheVariants.{Is, Nothing}
 use Rattle.member.proofs.Rows.{entry_at}
 
 -- the last of the entries is offered, or else it is the last offer before it
-pub last_snoc : (k v : ℕ) (o : Offer) (l : List Row) (r : Row)
+pub last_snoc : (k v : ℕ) (o : Option Bound) (l : List Row) (r : Row)
     → last_offer k v o (l ++ (r ∷ [])) ≡ cond (offered k v (ltb k (end_of r.name)) r) (offer_of r) (last_offer k v o l)
 unfolding last_offer
 last_snoc k v o [] r = refl
 last_snoc k v o (q ∷ l) r = last_snoc k v (cond (offered k v (ltb k (end_of q.name)) q) (offer_of q) o) l r
 
 -- LOW or HIGH is offered, or nothing
-pub bare_is : (e k : ℕ) → k ≡ e → bare_offer e k ≡ Is (bare e)
+pub bare_is : (e k : ℕ) → k ≡ e → bare_offer e k ≡ Some (bare e)
 bare_is e k h = rw (eq-eqb k e)
 
-pub bare_not : (e k : ℕ) → (k ≡ e → ⊥) → bare_offer e k ≡ Nothing
+pub bare_not : (e k : ℕ) → (k ≡ e → ⊥) → bare_offer e k ≡ None
 bare_not e k h = rw (ne_eqb k e)
 
 -- at the place that the search gave, all of it is left
@@ -45,7 +45,7 @@ unfolding offer_above_of
 above_from m x k v i s = rw s
 
 -- one step down from place i, and one up from it; e is the end of the entry met there, and b whether it is offered
-pub last_step : (m : Member) (k v i : ℕ) (o : Offer) (e : ℕ) (b : Bool) → 0 < i → i ≤ length (entries m)
+pub last_step : (m : Member) (k v i : ℕ) (o : Option Bound) (e : ℕ) (b : Bool) → 0 < i → i ≤ length (entries m)
     → e ≡ end_of (get_or m.rows (i - 1) none).name → b ≡ offered k v (ltb k e) (get_or m.rows (i - 1) none)
     → last_offer k v o (take i (entries m)) ≡ cond b (offer_of (get_or m.rows (i - 1) none)) (last_offer k v o (take (i - 1) (entries m)))
 last_step m k v zero o e b p h s t = elim p [ ]
@@ -54,7 +54,7 @@ last_step m k v (suc i) o e b p h s t =
     let t : b ≡ offered k v (ltb k (end_of r.name)) r = (rw sub-one at t) ∙ ap (λ (e : ℕ). offered k v (ltb k e) r) (rw sub-one at s) in
     rw (sub-one, t, ← entry_at m i h, take-suc (entries m) i none) (last_snoc k v o (take i (entries m)) (get_or (entries m) i none))
 
-pub first_step : (m : Member) (k v i : ℕ) (o : Offer) (e : ℕ) (b : Bool) → i < length (entries m)
+pub first_step : (m : Member) (k v i : ℕ) (o : Option Bound) (e : ℕ) (b : Bool) → i < length (entries m)
     → e ≡ end_of (get_or m.rows i none).name → b ≡ offered k v (ltb e k) (get_or m.rows i none)
     → first_offer k v o (drop i (entries m)) ≡ cond b (offer_of (get_or m.rows i none)) (first_offer k v o (drop (i + 1) (entries m)))
 unfolding first_offer
@@ -64,11 +64,11 @@ first_step m k v i o e b h s t =
     rw (t, ← entry_at m i h, drop-cons (entries m) i none, add-one i)
 
 -- where no entry is left
-pub last_end : (k v : ℕ) (o : Offer) (l : List Row) (i : ℕ) → i ≤ 0 → last_offer k v o (take i l) ≡ o
+pub last_end : (k v : ℕ) (o : Option Bound) (l : List Row) (i : ℕ) → i ≤ 0 → last_offer k v o (take i l) ≡ o
 unfolding last_offer
 last_end k v o l zero h = refl
 last_end k v o l (suc i) h = absurd (omega arith)
 
-pub first_end : (k v : ℕ) (o : Offer) (l : List Row) (i : ℕ) → length l ≤ i → first_offer k v o (drop i l) ≡ o
+pub first_end : (k v : ℕ) (o : Option Bound) (l : List Row) (i : ℕ) → length l ≤ i → first_offer k v o (drop i l) ≡ o
 unfolding first_offer
 first_end k v o l i h = rw (drop_of_length-le l)

@@ -1,12 +1,12 @@
--- Rows moved one place along: what a list becomes that is overwritten one element at a time by a target of its length, and the
--- targets of a row dropped and of a row put in.
-use mathlib.Core.Path.{◌≡◌, refl, ap, sym, ◌∙◌}
-use mathlib.Core.List.{List, [], ◌∷◌, ◌++◌, append_assoc}
-use Prim.Native.Nat.{ℕ, zero, suc, ◌+◌, ◌-◌, ◌≤◌, ◌<◌}
+-- Rows moved one place along, to put a row in or to close the place of one that is dropped: what the list of all places becomes.
+use mathlib.Core.Path.{◌≡◌, ap, sym, ◌∙◌}
+use mathlib.Core.List.{List, ◌∷◌, ◌++◌, append_assoc}
+use Prim.Native.Nat.{ℕ, suc, ◌+◌, ◌-◌, ◌≤◌, ◌<◌}
 use native.Mathlib.Omega.{arith}
 use native.Mathlib.Numerals.{add-one}
-use lib.ListN.{length, take, drop, get_or, set, length-append, length-take, length-drop, take-append-drop, get_or-append}
-use lib.Seq.{take-suc, drop-cons, append_snoc, set_at, get_or_at, take_at, drop_at, drop-append-add, length-take-le, get_or-append-add, get_or-drop, get_or-take}
+use lib.ListN.{length, take, drop, get_or, set, length-append, length-take, length-drop, get_or-append}
+use lib.Seq.{take-suc, drop-cons, append_snoc, set_at, take_at, drop-append_seam, take-append-le, drop-append-le, drop-append-add, length-take-le, get_or-append-add, get_or-drop, get_or-take}
+use Rattle.std.specs.List.{copy_within}
 
 module _ {A : Type 0} where
   -- from below: the target up to place i, and then what was there
@@ -36,11 +36,9 @@ module _ {A : Type 0} where
       let e : j < length (take i l) = rw (length-take-le i l h) k in
       rw (get_or-append (take i l) t d j e, get_or-take i l j d k)
 
-  -- below place i a list is as it was that has the first i of l and then others
-  pub same-below : (l u a b : List A) (i : ℕ) → i ≤ length l → take i ((take i l ++ a) ++ b) ≡ take i (l ++ u)
-  same-below l u a b zero h = refl
-  same-below [] u a b (suc i) h = absurd (omega arith)
-  same-below (x ∷ l) u a b (suc i) h = ap (λ (k : List A). x ∷ k) (same-below l u a b i (omega arith))
+  -- the part of l ++ u from place i on up to where l ends
+  pub end-of-first : (l u : List A) (i : ℕ) → i ≤ length l → take (length l - i) (drop i (l ++ u)) ≡ drop i l
+  end-of-first l u i h = rw (drop-append-le i l u h) (take_at (drop i l) u (length l - i) (length-drop i l))
 
   -- the rows l ++ u without that at place i, and d in the place that falls free
   abbrev pub dropped : List A → List A → A → ℕ → List A
@@ -49,34 +47,18 @@ module _ {A : Type 0} where
   pub length-less : (l : List A) (i : ℕ) → i < length l → length (take i l ++ drop (i + 1) l) + 1 ≡ length l
   length-less l i h = simp (length-append, length-take, length-drop) (omega arith)
 
-  pub length-dropped : (l u : List A) (d : A) (i : ℕ) → i < length l → length (dropped l u d i) ≡ length (l ++ u)
-  length-dropped l u d i h = simp (length-append, length-take, length-drop) (omega arith)
-
-  pub dropped-at : (l u : List A) (d z : A) (i j : ℕ) → i ≤ j → j + 1 < length l
-      → get_or (dropped l u d i) j z ≡ get_or (l ++ u) (j + 1) z
-  dropped-at [] u d z i j h k = absurd (omega arith)
-  dropped-at (x ∷ l) u d z zero j h k =
-      rw (add-one, get_or-append l (d ∷ u) z j (omega arith), get_or-append l u z j (omega arith))
-  dropped-at (x ∷ l) u d z (suc i) zero h k = absurd (omega arith)
-  dropped-at (x ∷ l) u d z (suc i) (suc j) h k =
-      let e : get_or (dropped l u d i) j z ≡ get_or (l ++ u) (j + 1) z = dropped-at l u d z i j (omega arith) (omega arith) in
-      simp add-one (simp add-one at e)
-
-  pub dropped-first : (l u : List A) (d : A) (i : ℕ) → i < length l → take i (dropped l u d i) ++ drop i (l ++ u) ≡ l ++ u
-  dropped-first l u d i h = rw (same-below l u (drop (i + 1) l) (d ∷ u) i (omega arith), take-append-drop)
-
-  pub dropped-last : (l u : List A) (d : A) (i j : ℕ) → i ≤ j → j + 1 ≡ length l
-      → set (take j (dropped l u d i) ++ drop j (l ++ u)) j d ≡ dropped l u d i
-  dropped-last l u d i j h k =
-      let p : List A = take i l ++ drop (i + 1) l in
-      let e : length p ≡ j = omega (arith, length-less l i (omega arith)) in
-      let f : j < length (l ++ u) = simp length-append (omega arith) in
-      rw (
-        take_at p (d ∷ u) j e,
-        drop-cons (l ++ u) j d f,
-        set_at p (get_or (l ++ u) j d) (drop (suc j) (l ++ u)) d j e,
-        drop_at l u (suc j) (omega arith),
-      )
+  pub row-dropped : (l u : List A) (d : A) (i : ℕ) → i < length l
+      → set (copy_within (l ++ u) (i + 1) (length l) i) (length l - 1) d ≡ dropped l u d i
+  row-dropped l u d i h =
+      let w = l ++ u in
+      let j = length l - 1 in
+      let p = take i l ++ drop (i + 1) l in
+      let n : length p ≡ j = omega (arith, length-less l i h) in
+      let e : i + (length l - (i + 1)) ≡ j = omega arith in
+      let f : suc j ≡ length l = omega arith in
+      let g : j < length w = rw (length-append l u) (omega arith) in
+      let k : drop j w ≡ get_or w j d ∷ u = drop-cons w j d g ∙ rw f (rw drop-append_seam) in
+      rw (take-append-le i l u (omega arith), end-of-first l u (i + 1) (omega arith), e, k) (set_at p (get_or w j d) u d j n)
 
   -- the rows l ++ u with r put in at place i, where u has a place for it
   abbrev pub inserted : List A → List A → A → ℕ → List A
@@ -85,31 +67,12 @@ module _ {A : Type 0} where
   pub length_more : (l : List A) (r : A) (i : ℕ) → i ≤ length l → length (take i l ++ (r ∷ drop i l)) ≡ length l + 1
   length_more l r i h = simp (length-append, length-take, length-drop) (omega arith)
 
-  pub length_inserted : (l u : List A) (r : A) (i : ℕ) → i ≤ length l → length l < length (l ++ u)
-      → length (inserted l u r i) ≡ length (l ++ u)
-  length_inserted l u r i h k =
-      let e : length (l ++ u) ≡ length l + length u = length-append l u in
-      simp (length-append, length-take, length-drop) (omega arith)
-
-  pub inserted-at : (l u : List A) (r z : A) (i j : ℕ) → i ≤ j → j < length l
-      → get_or (inserted l u r i) (suc j) z ≡ get_or (l ++ u) j z
-  inserted-at [] u r z i j h k = absurd (omega arith)
-  inserted-at (x ∷ l) u r z zero j h k =
-      rw (get_or-append (x ∷ l) (drop 1 u) z j k, get_or-append (x ∷ l) u z j k)
-  inserted-at (x ∷ l) u r z (suc i) zero h k = absurd (omega arith)
-  inserted-at (x ∷ l) u r z (suc i) (suc j) h k = inserted-at l u r z i j (omega arith) (omega arith)
-
-  pub inserted-first : (l u : List A) (r : A) (i : ℕ) → i ≤ length l
-      → take (length l + 1) (l ++ u) ++ drop (length l + 1) (inserted l u r i) ≡ l ++ u
-  inserted-first l u r i h =
-      rw (drop_at (take i l ++ (r ∷ drop i l)) (drop 1 u) (length l + 1) (length_more l r i h), ← drop-append-add l u 1, take-append-drop)
-
-  pub inserted-last : (l u : List A) (r : A) (i : ℕ) → i ≤ length l → length l < length (l ++ u)
-      → set (take (i + 1) (l ++ u) ++ drop (i + 1) (inserted l u r i)) i r ≡ inserted l u r i
-  inserted-last l u r i h k =
-      let e : get_or (inserted l u r i) i r ≡ r =
-      rw append_assoc (get_or_at (take i l) r (drop i l ++ drop 1 u) r i (length-take-le i l h)) in
-      let n : length (inserted l u r i) ≡ length (l ++ u) = length_inserted l u r i h k in
-      let f : set (take (i + 1) (l ++ u) ++ drop (i + 1) (inserted l u r i)) i r ≡ take i (l ++ u) ++ drop i (inserted l u r i) =
-      rw e at (over-down (inserted l u r i) (l ++ u) i r (omega arith) (omega arith)) in
-      f ∙ rw (← same-below l u (r ∷ drop i l) (drop 1 u) i h, take-append-drop)
+  pub row-inserted : (l u : List A) (r : A) (i : ℕ) → i ≤ length l → length l < length (l ++ u)
+      → set (copy_within (l ++ u) i (length l) (i + 1)) i r ≡ inserted l u r i
+  row-inserted l u r i h k =
+      let w = l ++ u in
+      let t = drop i l ++ drop 1 u in
+      let e : i + 1 + (length l - i) ≡ length l + 1 = omega arith in
+      let g : set (take (i + 1) w ++ t) i r ≡ take i w ++ (r ∷ t) =
+      rw (add-one, take-suc w i r (omega arith), append_snoc) (set_at (take i w) (get_or w i r) t r i (length-take-le i w (omega arith))) in
+      rw (end-of-first l u i h, e, drop-append-add l u 1, append_assoc (take (i + 1) w) (drop i l) (drop 1 u), g, take-append-le i l u h, append_assoc)

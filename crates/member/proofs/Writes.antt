@@ -2,11 +2,11 @@
 -- the last.
 use mathlib.Core.Path.{◌≡◌, refl, sym, ◌∙◌}
 use mathlib.Core.List.{List, [], ◌∷◌, ◌++◌}
-use mathlib.Core.Bool.{true, false}
+use mathlib.Core.Bool.{true}
 use Prim.Native.Nat.{ℕ, ◌+◌, ◌≤◌, ◌<◌}
 use native.Mathlib.Omega.{arith}
 use native.Mathlib.Numerals.{add-one}
-use borrow.Author.Tests.{lt-ltb, le-ltb, le-leb, lt-leb}
+use borrow.Author.Tests.{lt-ltb, le-leb, lt-leb}
 use lib.ListN.{length, take, drop, get_or, set, length-set}
 use lib.Seq.{set_split, set-append_left, take-length, drop-length}
 use Rattle.member.specs.Limits.{slots}
@@ -70,24 +70,10 @@ module _ (m : Member) (n v x : ℕ) where
         rw (written_new m.low (entries m) n v x i s t, lt-leb (length l) slots (omega arith))
 
 -- A row above the last, where n counts the entries and b is the end of the last.
-module _ (m : Member) (r : Row) (n : ℕ) (e : n ≡ length (entries m)) where
-  pub append-full : slots ≤ n → m ≡ append_of m r
-  unfolding append_of
-  append-full h = rw (← e, le-ltb n slots h)
-
-  module _ (h : n < slots) (b : ℕ) (q : b ≡ end_below (entries m) n) where
-    pub append_low : r.name < b → m ≡ append_of m r
-    unfolding append_of
-    append_low k = rw (← e, ← q, lt-ltb n slots h, lt-leb b r.name k)
-
-    module _ (k : b ≤ r.name) where
-      pub append-out : in_range r ≡ false → m ≡ append_of m r
-      unfolding append_of
-      append-out t = rw (← e, ← q, lt-ltb n slots h, le-leb b r.name k, t)
-
-      pub append-above : in_range r ≡ true → inserted_at m n r ≡ append_of m r
-      unfolding inserted_at append_of
-      append-above t =
-          let f : take n (entries m) ≡ entries m = rw (← e) at (take-length (entries m)) in
-          let d : drop n (entries m) ≡ [] = rw (← e) at (drop-length (entries m)) in
-          rw (← e, ← q, lt-ltb n slots h, le-leb b r.name k, t, f, d)
+pub append-above : (m : Member) (r : Row) (n : ℕ) → n ≡ length (entries m) → n < slots → (b : ℕ) → b ≡ end_below (entries m) n
+    → b ≤ r.name → in_range r ≡ true → inserted_at m n r ≡ append_of m r
+unfolding inserted_at append_of
+append-above m r n e h b q k t =
+    let f : take n (entries m) ≡ entries m = rw (← e) at (take-length (entries m)) in
+    let d : drop n (entries m) ≡ [] = rw (← e) at (drop-length (entries m)) in
+    rw (← e, ← q, lt-ltb n slots h, le-leb b r.name k, t, f, d)

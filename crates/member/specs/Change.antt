@@ -81,13 +81,3 @@ append_of m r = cond (goes_above (entries m) r) (holding m m.low (entries m ++ (
 -- a row put in at place i
 unfoldable pub inserted_at : Member → ℕ → Row → Member
 inserted_at m i r = holding m m.low (take i (entries m) ++ (r ∷ drop i (entries m)))
-
--- without the entries from place i up to but not j
-unfoldable pub cleared_at : Member → ℕ → ℕ → Member
-cleared_at m i j = holding m m.low (take i (entries m) ++ drop j (entries m))
-
-unfoldable pub write_end_of : Member → Bound → Member
-write_end_of m b = cond (ltb 0 b.end && ltb b.end high) (write_of m (b.end - 1) b.version b.value) m
-
-unfoldable pub set_gap_of : Member → ℕ → ℕ → Member
-set_gap_of m e g = holding m (low_set m.low e g) (gap_set (entries m) e g)

@@ -1,13 +1,16 @@
 -- Any two outcomes that the contract of a public function allows are equal: a theorem for each, with the contract's own text.
-use Rattle.std.specs.Prelude.{◌≡◌, ℕ, ◌≤◌, length}
+use Rattle.std.specs.Prelude.{◌≡◌, ℕ, ◌≤◌, min, length}
 use Rattle.std.proofs.Common.{sym, ◌∙◌}
-use Rattle.member.specs.Tile.{fresh_tile, empty_tile, entries, reading_of}
+use Rattle.member.specs.Tile.{fresh_tile, empty_tile, entries, reading_of, row_of}
 use Rattle.member.specs.Search.{end_of}
 use Rattle.member.specs.Rounds.{around_of, below_of, above_of, offer_below_of, offer_above_of}
 use Rattle.member.specs.Change.{write_of, drop_of, coalesce_of, append_of, fits_write, fits_coalesce}
 use Rattle.member.specs.Sound.{in_range, is_none, sound_member}
 use Rattle.member.specs.declared.Row.{Row}
 use Rattle.member.specs.declared.Bound.{Bound}
+use Rattle.member.specs.Steps.{with_row, with_low, with_count}
+use Rattle.member.specs.declared.Side.{Side}
+use Rattle.member.specs.declared.Offered.{Offered}
 use Rattle.member.specs.declared.Member.{Member}
 
 -- a contract allows one outcome at most
@@ -57,6 +60,18 @@ module _ (m : Member) where
   pub offer-above-determined : (name k v : ℕ) → Determines (λ r. r ≡ offer_above_of m name k v)
   offer-above-determined name k v = same (offer_above_of m name k v)
 
+  pub offers-determined : (name : ℕ) (below above : Side) → Determines (λ (r : Offered). r ≡ record {
+    below = offer_below_of m name below.end below.version;
+    above = offer_above_of m name above.end above.version;
+  })
+  offers-determined name below above = same (record {
+    below = offer_below_of m name below.end below.version;
+    above = offer_above_of m name above.end above.version;
+  })
+
+  pub entry-determined : (i : ℕ) → Determines (λ r. r ≡ row_of m i)
+  entry-determined i = same (row_of m i)
+
   pub fits-write-determined : (name : ℕ) → Determines (λ r. r ≡ fits_write m name)
   fits-write-determined name = same (fits_write m name)
 
@@ -66,14 +81,30 @@ module _ (m : Member) where
   pub is_sound_determined : Determines (λ r. r ≡ sound_member m)
   is_sound_determined = same (sound_member m)
 
+  pub put_determined : (name version value : ℕ) → Determines (λ r. r ≡ write_of m name version value)
+  put_determined name version value = same (write_of m name version value)
+
+  -- of a member by value the same
   pub write_determined : (name version value : ℕ) → Determines (λ r. r ≡ write_of m name version value)
-  write_determined name version value = same (write_of m name version value)
+  write_determined = put_determined
 
   pub drop-determined : (at : ℕ) → Determines (λ r. r ≡ drop_of m at)
   drop-determined at = same (drop_of m at)
 
+  pub join-determined : (p s : Bound) (gap : ℕ) → Determines (λ r. r ≡ coalesce_of m p s gap)
+  join-determined p s gap = same (coalesce_of m p s gap)
+
   pub coalesce-determined : (p s : Bound) (gap : ℕ) → Determines (λ r. r ≡ coalesce_of m p s gap)
-  coalesce-determined p s gap = same (coalesce_of m p s gap)
+  coalesce-determined = join-determined
 
   pub append_determined : (row : Row) → Determines (λ r. r ≡ append_of m row)
   append_determined row = same (append_of m row)
+
+  pub set-lowest-determined : (gap : ℕ) → Determines (λ r. r ≡ with_low m gap)
+  set-lowest-determined gap = same (with_low m gap)
+
+  pub set-entry-determined : (i : ℕ) (row : Row) → Determines (λ r. r ≡ with_row m i row)
+  set-entry-determined i row = same (with_row m i row)
+
+  pub set-size-determined : (n : ℕ) → Determines (λ r. r ≡ with_count m (min n 32))
+  set-size-determined n = same (with_count m (min n 32))

@@ -21,3 +21,4 @@ pub mod RoundTwoAbove
 pub mod OfferLaws
 pub mod SizeLaws
 pub mod Determined
+pub mod Steps

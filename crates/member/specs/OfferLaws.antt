@@ -1,4 +1,5 @@
 -- What a sound member offers in round two: bounds in range, below x and above it, and always the end of its own gap.
+use Rattle.std.specs.Prelude.{Option, Some, None}
 use Rattle.std.specs.Prelude.{◌≡◌, refl, true, ℕ, suc, ◌+◌, ◌≤◌, ◌<◌}
 use Rattle.std.proofs.Common.{sym, ◌∙◌, arith}
 use Rattle.member.specs.Limits.{largest_name, high}
@@ -12,8 +13,6 @@ use Rattle.member.specs.RoundTwoBelow.{answers-below}
 use Rattle.member.specs.RoundTwoAbove.{answers-above}
 use Rattle.member.specs.declared.Bound.{Bound}
 use Rattle.member.specs.declared.Member.{Member}
-use Rattle.member.specs.declared.Offer.{Offer}
-use Rattle.member.specs.declared.Offer.TheVariants.{Is, Nothing}
 
 -- an end from a up to but not c, with version and value in range; LOW and HIGH have version 0 and value 0
 pub record Within (a c : ℕ) (b : Bound) : Type 0 where
@@ -22,13 +21,13 @@ pub record Within (a c : ℕ) (b : Bound) : Type 0 where
   pub range : BoundRange b
   pub plain : BareEnd b
 
-abbrev pub OfferWithin : ℕ → ℕ → Offer → Type 0
-OfferWithin a c (Is b) = Within a c b
-OfferWithin a c Nothing = Unit {0}
+abbrev pub OfferWithin : ℕ → ℕ → Option Bound → Type 0
+OfferWithin a c (Some b) = Within a c b
+OfferWithin a c None = Unit {0}
 
-abbrev pub IsOffer : Offer → Type 0
-IsOffer (Is b) = Unit {0}
-IsOffer Nothing = ⊥
+abbrev pub IsOffer : Option Bound → Type 0
+IsOffer (Some b) = Unit {0}
+IsOffer None = ⊥
 
 shown_within : (m : Member) (a c : ℕ) (b : Bound) → sound_member m ≡ true → a ≤ b.end → b.end < c → b.end ≤ high
     → at_place m (place b.end) ≡ bound_reading b → Within a c b
@@ -47,17 +46,17 @@ module _ (m : Member) (x : ℕ) (h : sound_member m ≡ true) (i : x ≤ largest
   pub offer-below : (k v : ℕ) → OfferWithin 0 (x + 1) (offer_below_of m x k v)
   offer-below k v = go (offer_below_of m x k v) (answers-below m x h i k v)
     where
-      go : (o : Offer) → AnswersBelow (at_place m) k v (place (suc x)) o → OfferWithin 0 (x + 1) o
-      go (Is b) a = shown_within m 0 (x + 1) b h (omega arith) (omega (arith, a.0.under)) (omega (arith, a.0.under)) a.1
-      go Nothing a = tt
+      go : (o : Option Bound) → AnswersBelow (at_place m) k v (place (suc x)) o → OfferWithin 0 (x + 1) o
+      go (Some b) a = shown_within m 0 (x + 1) b h (omega arith) (omega (arith, a.0.under)) (omega (arith, a.0.under)) a.1
+      go None a = tt
 
   pub offer-above : (k v : ℕ) → k ≤ high → OfferWithin (x + 2) (high + 1) (offer_above_of m x k v)
   offer-above k v j = go (offer_above_of m x k v) (answers-above m x h i k v j)
     where
-      go : (o : Offer) → AnswersAbove (at_place m) k v (place (suc x)) o → OfferWithin (x + 2) (high + 1) o
-      go (Is b) a =
+      go : (o : Option Bound) → AnswersAbove (at_place m) k v (place (suc x)) o → OfferWithin (x + 2) (high + 1) o
+      go (Some b) a =
           shown_within m (x + 2) (high + 1) b h (omega (arith, a.0.over)) (omega (arith, a.0.reach)) (omega (arith, a.0.reach)) a.1
-      go Nothing a = tt
+      go None a = tt
 
   pub below_end : (below_of m x).end ≤ high
   below_end = omega (arith, (lower_end m x h i).under)
@@ -68,9 +67,9 @@ module _ (m : Member) (x : ℕ) (h : sound_member m ≡ true) (i : x ≤ largest
       k : ℕ
       k = (below_of m x).end
 
-      go : (o : Offer) → AnswersBelow (at_place m) k v (place (suc x)) o → IsOffer o
-      go (Is b) a = tt
-      go Nothing a = let e = lower_end m x h i in (a (place k) (omega arith) e.under e.entry).0 refl
+      go : (o : Option Bound) → AnswersBelow (at_place m) k v (place (suc x)) o → IsOffer o
+      go (Some b) a = tt
+      go None a = let e = lower_end m x h i in (a (place k) (omega arith) e.under e.entry).0 refl
 
   pub above-end : (above_of m x).end ≤ high
   above-end = omega (arith, (upper-end m x h i).fits)
@@ -81,6 +80,6 @@ module _ (m : Member) (x : ℕ) (h : sound_member m ≡ true) (i : x ≤ largest
       k : ℕ
       k = (above_of m x).end
 
-      go : (o : Offer) → AnswersAbove (at_place m) k v (place (suc x)) o → IsOffer o
-      go (Is b) a = tt
-      go Nothing a = let e = upper-end m x h i in (a (place k) (omega arith) e.over e.entry).0 refl
+      go : (o : Option Bound) → AnswersAbove (at_place m) k v (place (suc x)) o → IsOffer o
+      go (Some b) a = tt
+      go None a = let e = upper-end m x h i in (a (place k) (omega arith) e.over e.entry).0 refl

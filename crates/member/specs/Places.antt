@@ -1,13 +1,12 @@
 -- What a member shows at each place. Places make the space of names dense, so that the gap between the names n and n + 1 is
 -- something: the end e (LOW 0, the name n n + 1, HIGH 1,048,577) has the place 2e, and the space above it the place 2e + 1.
+use Rattle.std.specs.Prelude.{Option, Some, None}
 use Rattle.std.specs.Prelude.{List, [], ◌∷◌, cond, ◌≡◌, ◌⊎◌, ℕ, suc, ◌*◌, ◌≤◌, ◌<◌, ltb, leb, eqb}
 use Rattle.member.specs.Limits.{high}
 use Rattle.member.specs.Tile.{entries}
 use Rattle.member.specs.declared.Row.{Row}
 use Rattle.member.specs.declared.Member.{Member}
 use Rattle.member.specs.declared.Bound.{Bound}
-use Rattle.member.specs.declared.Offer.{Offer}
-use Rattle.member.specs.declared.Offer.TheVariants.{Is, Nothing}
 use Rattle.member.specs.declared.Reading.{Reading}
 use Rattle.member.specs.declared.Reading.TheVariants.{Entry, Gap}
 
@@ -111,10 +110,10 @@ abbrev pub Passed : ℕ → ℕ → ℕ → Reading → Type 0
 Passed k v y r = (y ≡ k → ⊥) × (version r ≤ v)
 
 -- What a member's answer says of what it shows, below x and above x.
-abbrev pub AnswersBelow : Shown → ℕ → ℕ → ℕ → Offer → Type 0
-AnswersBelow f k v x (Is b) = OffersBelow f (place k) v x (place b.end) × (f (place b.end) ≡ bound_reading b)
-AnswersBelow f k v x Nothing = (y : ℕ) → place k ≤ y → y < x → IsEntry (f y) → Passed (place k) v y (f y)
+abbrev pub AnswersBelow : Shown → ℕ → ℕ → ℕ → Option Bound → Type 0
+AnswersBelow f k v x (Some b) = OffersBelow f (place k) v x (place b.end) × (f (place b.end) ≡ bound_reading b)
+AnswersBelow f k v x None = (y : ℕ) → place k ≤ y → y < x → IsEntry (f y) → Passed (place k) v y (f y)
 
-abbrev pub AnswersAbove : Shown → ℕ → ℕ → ℕ → Offer → Type 0
-AnswersAbove f k v x (Is b) = OffersAbove f (place k) v x (place b.end) × (f (place b.end) ≡ bound_reading b)
-AnswersAbove f k v x Nothing = (y : ℕ) → y ≤ place k → x < y → IsEntry (f y) → Passed (place k) v y (f y)
+abbrev pub AnswersAbove : Shown → ℕ → ℕ → ℕ → Option Bound → Type 0
+AnswersAbove f k v x (Some b) = OffersAbove f (place k) v x (place b.end) × (f (place b.end) ≡ bound_reading b)
+AnswersAbove f k v x None = (y : ℕ) → y ≤ place k → x < y → IsEntry (f y) → Passed (place k) v y (f y)

@@ -1,4 +1,5 @@
 -- Round two above a name, the mirror image: the first entry offered among the rows above it.
+use Rattle.std.specs.Prelude.{Option, Some, None}
 use Rattle.std.specs.Prelude.{◌≡◌, ◌⊎◌, List, [], ◌∷◌, Bool, cond, ℕ, suc, ◌+◌, ◌≤◌, ◌<◌, drop, ltb}
 use Rattle.std.proofs.Math.Path.{refl, sym}
 use Rattle.std.proofs.Common.{◌∙◌, inr}
@@ -21,18 +22,16 @@ use Rattle.member.specs.ReadingLaws.{Order, less, same, more, order, read_nil, r
 use Rattle.member.specs.declared.Row.{Row}
 use Rattle.member.specs.declared.Bound.{Bound}
 use Rattle.member.specs.declared.Member.{Member}
-use Rattle.member.specs.declared.Offer.{Offer}
-use Rattle.member.specs.declared.Offer.TheVariants.{Is, Nothing}
 
 -- The first entry offered, over rows above the end e: the offer o stays where none of them is offered.
-data FirstOf (k v : ℕ) (f : Shown) (e : ℕ) (o : Offer) : Offer → Type 0 where
+data FirstOf (k v : ℕ) (f : Shown) (e : ℕ) (o : Option Bound) : Option Bound → Type 0 where
   kept : ((z : ℕ) → place e < z → z ≤ place k → IsEntry (f z) → Passed (place k) v z (f z)) → FirstOf k v f e o o
   found : (b : Bound) → e < b.end → b.end < high → b.end ≤ k → f (place b.end) ≡ bound_reading b → (b.end ≡ k) ⊎ (v < b.version)
-      → ((z : ℕ) → place e < z → z < place b.end → IsEntry (f z) → version (f z) ≤ v) → FirstOf k v f e o (Is b)
+      → ((z : ℕ) → place e < z → z < place b.end → IsEntry (f z) → version (f z) ≤ v) → FirstOf k v f e o (Some b)
 
 -- one row more below the others
-first_step : (k v g : ℕ) (r : Row) (l : List Row) (e : ℕ) (o : Offer) → InRange r → e ≤ r.name → (t : Bool) → offered k v (ltb (end_of r.name) k) r ≡ t
-    → (o' : Offer) → FirstOf k v (at_place_in r.gap l) (r.name + 1) o o' → FirstOf k v (at_place_in g (r ∷ l)) e o (cond t (offer_of r) o')
+first_step : (k v g : ℕ) (r : Row) (l : List Row) (e : ℕ) (o : Option Bound) → InRange r → e ≤ r.name → (t : Bool) → offered k v (ltb (end_of r.name) k) r ≡ t
+    → (o' : Option Bound) → FirstOf k v (at_place_in r.gap l) (r.name + 1) o o' → FirstOf k v (at_place_in g (r ∷ l)) e o (cond t (offer_of r) o')
 first_step k v g r l e o i h true t o' w =
     found (bound_of r) (omega (arith, n)) (omega (arith, n, i.name-max)) (reach (offered_true k v (ltb (end_of r.name) k) r t)) (row_at k v g r l i)
     (offered_counts k v (ltb (end_of r.name) k) r t) (λ z a b c. absurd (rw (read_more g r l z (omega (arith, n))) at c))
@@ -63,7 +62,7 @@ first_step k v g r l e o i h false t _ (found b u j s f c w) =
     go z a q (same d) = (row-passed k v g r l i (ltb (end_of r.name) k) (λ _. lt-ltb (end_of r.name) k (omega (arith, n))) t z d).1
     go z a q (more d) = absurd (rw (read_more g r l z d) at q)
 
-first_of : (k v g : ℕ) (l : List Row) (e : ℕ) (o : Offer) → Ascends e l → FirstOf k v (at_place_in g l) e o (first_offer k v o l)
+first_of : (k v g : ℕ) (l : List Row) (e : ℕ) (o : Option Bound) → Ascends e l → FirstOf k v (at_place_in g l) e o (first_offer k v o l)
 unfolding first_offer
 first_of k v g [] e o a = kept (λ z b c d. absurd (rw (read_nil g z) at d))
 first_of k v g (r ∷ l) e o a =
@@ -90,10 +89,10 @@ module _ (m : Member) (x : ℕ) (h : sound_member m ≡ true) (i : x ≤ largest
   unfolding offer_above_of rows
   answers-above k v j = go (offer_above_of m x k v) (first_of k v gap rows (x + 1) (bare_offer high k) rows-ascend)
     where
-      go : (o : Offer) → FirstOf k v (at_place_in gap rows) (x + 1) (bare_offer high k) o → AnswersAbove (at_place m) k v (place (suc x)) o
+      go : (o : Option Bound) → FirstOf k v (at_place_in gap rows) (x + 1) (bare_offer high k) o → AnswersAbove (at_place m) k v (place (suc x)) o
       go _ (kept w) = top (eqb k high) refl
         where
-          top : (t : Bool) → eqb k high ≡ t → AnswersAbove (at_place m) k v (place (suc x)) (cond t (Is (bare high)) Nothing)
+          top : (t : Bool) → eqb k high ≡ t → AnswersAbove (at_place m) k v (place (suc x)) (cond t (Some (bare high)) None)
           top false e = λ y a b c. let p = rows-show y b (inside (eqb-false k high e) a) in rw p (w y (omega arith) a (rw p at c))
             where
               inside : (k ≡ high → ⊥) → {y : ℕ} → y ≤ place k → y < hi_place

@@ -1,4 +1,5 @@
 -- Round two below a name: the last entry offered among the rows below it.
+use Rattle.std.specs.Prelude.{Option, Some, None}
 use Rattle.std.specs.Prelude.{◌≡◌, ◌⊎◌, Bool, cond, ℕ, suc, ◌+◌, ◌≤◌, ◌<◌, take, ltb}
 use Rattle.std.proofs.Math.Path.{refl, sym, ap, subst}
 use Rattle.std.proofs.Common.{◌∙◌, inr}
@@ -24,19 +25,17 @@ use Rattle.member.specs.ReadingLaws.{Order, less, same, more, order, read_nil, r
 use Rattle.member.specs.declared.Row.{Row}
 use Rattle.member.specs.declared.Bound.{Bound}
 use Rattle.member.specs.declared.Member.{Member}
-use Rattle.member.specs.declared.Offer.{Offer}
-use Rattle.member.specs.declared.Offer.TheVariants.{Is, Nothing}
 use Rattle.member.specs.declared.Reading.TheVariants.{Gap}
 
 -- The last entry offered, over rows above the end e: the offer o stays where none of them is offered.
-data LastOf (k v : ℕ) (f : Shown) (e : ℕ) (o : Offer) : Offer → Type 0 where
+data LastOf (k v : ℕ) (f : Shown) (e : ℕ) (o : Option Bound) : Option Bound → Type 0 where
   kept : ((z : ℕ) → place e < z → place k ≤ z → IsEntry (f z) → Passed (place k) v z (f z)) → LastOf k v f e o o
   found : (b : Bound) → e < b.end → k ≤ b.end → f (place b.end) ≡ bound_reading b → (b.end ≡ k) ⊎ (v < b.version)
-      → ((z : ℕ) → place b.end < z → IsEntry (f z) → version (f z) ≤ v) → LastOf k v f e o (Is b)
+      → ((z : ℕ) → place b.end < z → IsEntry (f z) → version (f z) ≤ v) → LastOf k v f e o (Some b)
 
 -- one row more below
-last_step : (k v g : ℕ) (r : Row) (l : List Row) (e : ℕ) (o : Offer) → InRange r → e ≤ r.name → (t : Bool) → offered k v (ltb k (end_of r.name)) r ≡ t
-    → (o' : Offer) → LastOf k v (at_place_in r.gap l) (r.name + 1) (cond t (offer_of r) o) o' → LastOf k v (at_place_in g (r ∷ l)) e o o'
+last_step : (k v g : ℕ) (r : Row) (l : List Row) (e : ℕ) (o : Option Bound) → InRange r → e ≤ r.name → (t : Bool) → offered k v (ltb k (end_of r.name)) r ≡ t
+    → (o' : Option Bound) → LastOf k v (at_place_in r.gap l) (r.name + 1) (cond t (offer_of r) o) o' → LastOf k v (at_place_in g (r ∷ l)) e o o'
 last_step k v g r l e o i h true t _ (kept w) = found (bound_of r) (omega (arith, n)) reach (row_at k v g r l i) (offered_counts k v (ltb k (end_of r.name)) r t) above
   where
     n : end_of r.name ≡ r.name + 1
@@ -63,7 +62,7 @@ last_step k v g r l e o i h false t _ (kept w) = kept (λ z a b c. go z b c (ord
 last_step k v g r l e o i h t q _ (found b u s f c w) =
     found b (omega arith) s (read-less g r l (place b.end) (omega arith) ∙ f) c (λ z a d. let p = read-less g r l z (omega arith) in rw p (w z a (rw p at d)))
 
-last_of : (k v g : ℕ) (l : List Row) (e : ℕ) (o : Offer) → Ascends e l → LastOf k v (at_place_in g l) e o (last_offer k v o l)
+last_of : (k v g : ℕ) (l : List Row) (e : ℕ) (o : Option Bound) → Ascends e l → LastOf k v (at_place_in g l) e o (last_offer k v o l)
 unfolding last_offer
 last_of k v g [] e o a = kept (λ z b c d. absurd (rw (read_nil g z) at d))
 last_of k v g (r ∷ l) e o a =
@@ -96,10 +95,10 @@ module _ (m : Member) (x : ℕ) (h : sound_member m ≡ true) (i : x ≤ largest
   unfolding offer_below_of rows
   answers-below k v = go (offer_below_of m x k v) (last_of k v m.low rows 0 (bare_offer 0 k) rows-ascend)
     where
-      go : (o : Offer) → LastOf k v (at_place_in m.low rows) 0 (bare_offer 0 k) o → AnswersBelow (at_place m) k v (place (suc x)) o
+      go : (o : Option Bound) → LastOf k v (at_place_in m.low rows) 0 (bare_offer 0 k) o → AnswersBelow (at_place m) k v (place (suc x)) o
       go _ (kept w) = low (eqb k 0) refl
         where
-          low : (t : Bool) → eqb k 0 ≡ t → AnswersBelow (at_place m) k v (place (suc x)) (cond t (Is (bare 0)) Nothing)
+          low : (t : Bool) → eqb k 0 ≡ t → AnswersBelow (at_place m) k v (place (suc x)) (cond t (Some (bare 0)) None)
           low false e = λ y a b c. let p = rows-show y (pos (eqb-false k 0 e) a) b in rw p (w y (pos (eqb-false k 0 e) a) a (rw p at c))
             where
               pos : (k ≡ 0 → ⊥) → {y : ℕ} → place k ≤ y → 0 < y

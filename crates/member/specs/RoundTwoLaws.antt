@@ -1,4 +1,5 @@
 -- Round two: the test by which an entry is offered, and an answer that offers none.
+use Rattle.std.specs.Prelude.{None}
 use Rattle.std.specs.Prelude.{◌≡◌, refl, ◌⊎◌, ◌≢◌, List, ◌∷◌, Bool, true, false, ◌&&◌, ◌||◌, ℕ, ◌+◌, ◌≤◌, ◌<◌, ltb, eqb}
 use Rattle.std.proofs.Common.{inl, inr, true≢false, arith, ltb-true, ltb-false, eqb-true}
 use Rattle.std.proofs.lemmas.Bool.{false≢true, eqb-false}
@@ -10,7 +11,6 @@ use Rattle.member.specs.Places.{place, row_place, at_place_in, version, Shown, b
 use Rattle.member.specs.ReadingLaws.{read_same}
 use Rattle.member.specs.declared.Row.{Row}
 use Rattle.member.specs.declared.Bound.{Bound}
-use Rattle.member.specs.declared.Offer.TheVariants.{Nothing}
 use Rattle.member.specs.declared.Reading.{Reading}
 
 -- the test of an entry
@@ -63,8 +63,8 @@ passed_not : (k v y : ℕ) (r : Reading) → Passed k v y r → (y ≡ k) ⊎ (v
 passed_not k v y r p (inl e) = p.0 e
 passed_not k v y r p (inr h) = omega (arith, p.1)
 
-pub none_below : (f : Shown) (k v x : ℕ) → AnswersBelow f k v x Nothing → (y : ℕ) → OffersBelow f (place k) v x y → ⊥
+pub none_below : (f : Shown) (k v x : ℕ) → AnswersBelow f k v x None → (y : ℕ) → OffersBelow f (place k) v x y → ⊥
 none_below f k v x a y o = passed_not (place k) v y (f y) (a y o.reach o.under o.entry) o.counts
 
-pub none_above : (f : Shown) (k v x : ℕ) → AnswersAbove f k v x Nothing → (y : ℕ) → OffersAbove f (place k) v x y → ⊥
+pub none_above : (f : Shown) (k v x : ℕ) → AnswersAbove f k v x None → (y : ℕ) → OffersAbove f (place k) v x y → ⊥
 none_above f k v x a y o = passed_not (place k) v y (f y) (a y o.reach o.over o.entry) o.counts

@@ -1,5 +1,5 @@
-// How a member changes: an entry written, an entry dropped, a row added above the last. Each change takes the member by value
-// and gives the changed one back.
+// How a member changes: an entry written, an entry dropped, a row added above the last. A member is written where it lies; the named
+// form of the rules paper takes it by value and gives it back.
 ghost use Rattle.std.specs.Prelude.{◌≡◌, ◌≤◌, ◌<◌, length};
 ghost use Rattle.member.specs.Tile.{entries};
 ghost use Rattle.member.specs.Change.{write_of, drop_of, inserted_at, append_of};
@@ -9,9 +9,9 @@ use crate::{Member, Row};
 
 impl Member {
     // Writing an entry: an entry of that name takes the version and value; otherwise it is added, and both halves of the
-    // split gap keep that gap's version. A member with no place left for it is given back as it was.
-    pub fn write(mut self, name: u32, version: u32, value: u32) -> Member
-        ensures { result ≡ write_of self name version value }
+    // split gap keep that gap's version. A member with no place left for it stays as it was.
+    pub fn put(&mut self, name: u32, version: u32, value: u32)
+        ensures { self.new ≡ write_of self.old name version value }
     {
         let n = self.used();
         let at = self.seat(name);
@@ -25,12 +25,12 @@ impl Member {
                     gap: kept,
                 };
                 self.count = n;
-                return self;
+                return;
             }
         }
         if n < Member::SLOTS {
             let split = self.gap_below(at);
-            return self.insert(
+            self.insert(
                 at,
                 Row {
                     name,
@@ -40,23 +40,26 @@ impl Member {
                 },
             );
         }
+    }
+
+    // The same of a member by value, given back changed.
+    #[inline(always)]
+    pub fn write(mut self, name: u32, version: u32, value: u32) -> Member
+        ensures { result ≡ write_of self name version value }
+    {
+        self.put(name, version, value);
         self
     }
 
     // The row at place `at`, with the entries from there on one place up.
-    fn insert(mut self, at: usize, row: Row) -> Member
-        requires { (at ≤ length (entries self)) × (length (entries self) < 32) }
-        ensures { result ≡ inserted_at self at row }
+    fn insert(&mut self, at: usize, row: Row)
+        requires { (at ≤ length (entries self.old)) × (length (entries self.old) < 32) }
+        ensures { self.new ≡ inserted_at self.old at row }
     {
         let n = self.used();
-        let mut i = n;
-        while at < i {
-            self.rows[i] = self.rows[i - 1];
-            i -= 1;
-        }
+        self.rows.copy_within(at..n, at + 1);
         self.rows[at] = row;
         self.count = n + 1;
-        self
     }
 
     // Without the entry in place `at`: the merged gap keeps the version of the gap below it.
@@ -68,26 +71,21 @@ impl Member {
             return self;
         }
         let last = n - 1;
-        let mut i = at;
-        while i < last {
-            self.rows[i] = self.rows[i + 1];
-            i += 1;
-        }
+        self.rows.copy_within(at + 1..n, at);
         self.rows[last] = Row::NONE;
         self.count = last;
         self
     }
 
     // A row added above the last, for whoever reads a member from an image. Where it does not go there, the member as it was.
+    #[tactic(auto, unfolding(crate::specs::Change::append_of))]
     pub fn append(mut self, row: Row) -> Member
         ensures { result ≡ append_of self row }
     {
         let top = self.used();
         if top < Member::SLOTS {
-            if self.end_below(top) <= row.name {
-                if in_range(row) {
-                    return self.insert(top, row);
-                }
+            if self.end_below(top) <= row.name && in_range(row) {
+                self.insert(top, row);
             }
         }
         self

@@ -1,95 +1,99 @@
-// Coalescing p..s, as the paper has it: p and s are written, every entry strictly between is dropped, and the one gap between
-// them gets its version. The entries between are dropped first, so that a full member has room for p and s.
-ghost use Rattle.std.specs.Prelude.{◌≡◌, ◌≤◌, length};
+// Coalescing p..s, as the rules paper has it: p and s are written, every entry strictly between is dropped, and the one gap between
+// them gets its version. The rows below p and past s stay, and the rows of p and s go between them.
+ghost use Rattle.std.specs.Prelude.{◌≡◌, ◌≤◌, ◌+◌, ◌-◌, length};
 ghost use Rattle.member.specs.Tile.{entries};
-ghost use Rattle.member.specs.Change.{cleared_at, write_end_of, set_gap_of, coalesce_of, fits_coalesce};
+ghost use Rattle.member.specs.Change.{coalesce_of, fits_coalesce};
+ghost use Rattle.member.specs.Steps.{own, end_put, moved_at};
 
-use crate::{Bound, Member, Name};
+use crate::{Bound, Member, Name, Row};
+
+// How many rows an end has: one for a name, none for LOW and HIGH.
+fn rows_of(end: u32) -> usize
+    ensures { (result ≡ own end) × (result ≤ 1) }
+{
+    if 0 < end && end < Name::HIGH { 1 } else { 0 }
+}
 
 impl Member {
-    // Without the entries from place `from` up to but not `to`, dropped one at a time.
-    fn clear(mut self, from: usize, to: usize) -> Member
-        requires { (from ≤ to) × (to ≤ length (entries self)) }
-        ensures { result ≡ cleared_at self from to }
+    // The entries from place `at` on moved to begin at place `to`; the places that fall free hold zero. What is below `to` stays as
+    // it is: the caller puts its rows there.
+    pub(crate) fn shift(&mut self, at: usize, to: usize)
+        requires { (at ≤ length (entries self.old)) × (to + (length (entries self.old) - at) ≤ 32) }
+        ensures { self.new ≡ moved_at self.old at to }
     {
         let n = self.used();
-        self.count = n;
-        let mut left = to - from;
-        while 0 < left {
-            self = self.drop(from);
-            left -= 1;
+        let end = to + (n - at);
+        self.rows.copy_within(at..n, to);
+        if end < n {
+            self.rows[end..n].fill(Row::NONE);
         }
-        self
+        self.count = end;
     }
 
-    // The entry of an end written; LOW and HIGH are there already.
-    fn write_end(mut self, b: Bound) -> Member
-        ensures { result ≡ write_end_of self b }
+    // The row of an end put in its place, with the version of the gap above it. LOW and HIGH have none, and the gap above LOW is
+    // the lowest.
+    fn put_end(&mut self, at: usize, b: Bound, gap: u32)
+        requires { at + own b.end ≤ 32 }
+        ensures { self.new ≡ end_put self.old at b gap }
     {
         if b.end == 0 {
-            return self;
+            self.low = gap;
+        } else if b.end < Name::HIGH {
+            self.rows[at] = Row {
+                name: b.end - 1,
+                version: b.version,
+                value: b.value,
+                gap,
+            };
         }
-        if Name::HIGH <= b.end {
-            return self;
-        }
-        self.write(b.end - 1, b.version, b.value)
     }
 
-    // The gap above an end given a version.
-    fn set_gap(mut self, end: u32, version: u32) -> Member
-        ensures { result ≡ set_gap_of self end version }
-    {
-        let n = self.used();
-        let at = self.below_end(end);
-        self.count = n;
-        if end == 0 {
-            self.low = version;
-            return self;
-        }
-        if at < n {
-            self.rows[at].gap = version;
-        }
-        self
-    }
-
-    // Would coalescing p..s leave at most 32 entries? Those below p and above s stay, and p and s are there.
-    pub fn fits_coalesce(self, p: u32, s: u32) -> bool
-        ensures { result ≡ fits_coalesce self p s }
+    // Would coalescing p..s leave at most 32 entries? Those below p and above s stay, and p and s are there: at most two more than
+    // before.
+    pub fn fits_coalesce(&self, p: u32, s: u32) -> bool
+        ensures { result ≡ fits_coalesce self.now p s }
     {
         if s <= p {
             return true;
         }
-        // From HIGH on there is no entry to add or to drop.
-        if Name::HIGH <= p {
+        let n = self.used();
+        if n + 2 <= Member::SLOTS {
             return true;
         }
-        let mut after = self.below_end(p) + (self.used() - self.past_end(s));
-        if p != 0 {
-            after += 1;
-        }
-        if s < Name::HIGH {
-            after += 1;
-        }
-        after <= Member::SLOTS
+        let from = self.below_end(p);
+        let to = self.past_end(s);
+        let mid = from + rows_of(p);
+        let end = mid + rows_of(s);
+        end + (n - to) <= Member::SLOTS
     }
 
-    // Coalescing p..s with the version given. A member that would hold over 32 entries is given back as it was, and so is
-    // one asked with ends that are not in order.
+    // Coalescing p..s with the version given. A member that would hold over 32 entries stays as it was, and so does one asked with
+    // ends that are not in order.
+    pub fn join(&mut self, p: Bound, s: Bound, gap: u32)
+        ensures { self.new ≡ coalesce_of self.old p s gap }
+    {
+        if s.end <= p.end {
+            return;
+        }
+        let n = self.used();
+        let from = self.below_end(p.end);
+        let to = self.past_end(s.end);
+        let mid = from + rows_of(p.end);
+        let end = mid + rows_of(s.end);
+        if end + (n - to) <= Member::SLOTS {
+            let above = self.gap_below(to);
+            self.shift(to, end);
+            self.put_end(from, p, gap);
+            self.put_end(mid, s, above);
+        }
+    }
+
+    // The same of a member by value, given back changed.
+    #[inline(always)]
     pub fn coalesce(mut self, p: Bound, s: Bound, gap: u32) -> Member
         ensures { result ≡ coalesce_of self p s gap }
     {
-        if s.end <= p.end {
-            return self;
-        }
-        if self.fits_coalesce(p.end, s.end) {
-            // Dropping merges the gap that s splits into the gap above p: its version is taken first.
-            let above = self.gap_below(self.past_end(s.end));
-            self = self.clear(self.past_end(p.end), self.below_end(s.end));
-            self = self.write_end(p);
-            self = self.write_end(s);
-            self = self.set_gap(s.end, above);
-            return self.set_gap(p.end, gap);
-        }
+        self.join(p, s, gap);
         self
     }
 }

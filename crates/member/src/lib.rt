@@ -4,6 +4,7 @@
 #![tactic(auto)]
 
 mod ask;
+mod build;
 mod change;
 mod coalesce;
 mod rounds;
@@ -72,15 +73,15 @@ pub struct Bound {
     pub value: u32,
 }
 
-// The answer of round two.
+// The answer of round two: what is offered on either side.
 #[derive(Clone, Copy)]
-pub enum Offer {
-    Is(Bound),
-    Nothing,
+pub struct Offered {
+    pub below: Option<Bound>,
+    pub above: Option<Bound>,
 }
 
 // An entry in its place, with the version of the gap above it.
-#[derive(Clone, Copy)]
+#[derive(Clone, Copy, PartialEq, Eq)]
 pub struct Row {
     pub name: u32,
     pub version: u32,

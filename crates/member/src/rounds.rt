@@ -1,120 +1,106 @@
 // The answers to the two rounds of a neighbour query.
 ghost use Rattle.std.specs.Prelude.{◌≡◌};
-ghost use Rattle.member.specs.Rounds.{around_of, below_of, above_of, offered, offer_of, offer_below_of, offer_above_of};
+ghost use Rattle.member.specs.Rounds.{around_of, offered, bound_of, bare_offer, offer_below_of, offer_above_of};
+ghost use Rattle.member.specs.Search.{seat_in};
+ghost use Rattle.member.specs.Tile.{entries};
 
 use crate::search::end_of;
-use crate::{Around, Bound, Member, Name, Offer, Row, Side};
+use crate::{Around, Bound, Member, Name, Offered, Row, Side};
 
 // Is this entry k itself, or does it lie beyond k, on the name's side, with a version above v?
 fn is_offered(row: Row, k: u32, beyond: bool, v: u32) -> bool
     ensures { result ≡ offered k v beyond row }
 {
-    if end_of(row.name) == k {
-        return true;
-    }
-    if beyond { v < row.version } else { false }
+    end_of(row.name) == k || (beyond && v < row.version)
 }
 
 // The entry as an answer gives it.
-fn offer(row: Row) -> Offer
-    ensures { result ≡ offer_of row }
+fn bound_of(row: Row) -> Bound
+    ensures { result ≡ bound_of row }
 {
-    Offer::Is(Bound {
+    Bound {
         end: end_of(row.name),
         version: row.version,
         value: row.value,
-    })
+    }
+}
+
+// LOW or HIGH is offered where it is k.
+fn offer_end(end: u32, k: u32) -> Option<Bound>
+    ensures { result ≡ bare_offer end k }
+{
+    if k == end {
+        Some(Bound {
+            end,
+            version: 0,
+            value: 0,
+        })
+    } else {
+        None
+    }
 }
 
 impl Member {
     // Round one at a name: the reading there, and the gaps next below and next above.
-    pub fn around(self, name: u32) -> Around
-        ensures { result ≡ around_of self name }
-    {
-        let reading = self.reading(name);
-        let below = self.below(name);
-        let above = self.above(name);
-        Around {
-            reading,
-            below,
-            above,
-        }
-    }
-
-    // The gap next below the name: its version and its lower end.
-    pub fn below(self, name: u32) -> Side
-        ensures { result ≡ below_of self name }
+    pub fn around(&self, name: u32) -> Around
+        ensures { result ≡ around_of self.now name }
     {
         let at = self.seat(name);
-        Side {
-            version: self.gap_below(at),
-            end: self.end_below(at),
+        let after = self.next(at, name);
+        Around {
+            reading: self.reading_at(at, name),
+            below: Side {
+                version: self.gap_below(at),
+                end: self.end_below(at),
+            },
+            above: Side {
+                version: self.gap_below(after),
+                end: self.end_at(after),
+            },
         }
     }
 
-    // The gap next above the name: its version and its upper end.
-    pub fn above(self, name: u32) -> Side
-        ensures { result ≡ above_of self name }
+    // Round two, for the gaps that round one found next below and next above the name.
+    pub fn offers(&self, name: u32, below: Side, above: Side) -> Offered
+        ensures { result ≡ record {
+          below = offer_below_of self.now name below.end below.version;
+          above = offer_above_of self.now name above.end above.version;
+        } }
     {
-        let at = self.next(name);
-        let version = self.gap_below(at);
-        if at < self.used() {
-            Side {
-                version,
-                end: end_of(self.rows[at].name),
-            }
-        } else {
-            Side {
-                version,
-                end: Name::HIGH,
-            }
+        let at = self.seat(name);
+        Offered {
+            below: self.offer_below(at, name, below.end, below.version),
+            above: self.offer_above(at, name, above.end, above.version),
         }
     }
 
-    // Round two below: the greatest entry from k up to but not the name that is k itself or has a version above v.
-    pub fn offer_below(self, name: u32, k: u32, v: u32) -> Offer
-        ensures { result ≡ offer_below_of self name k v }
+    // Round two below: the greatest entry from k up to but not the name that is k itself or has a version above v, for a name that
+    // has `at` entries below it.
+    fn offer_below(&self, at: usize, name: u32, k: u32, v: u32) -> Option<Bound>
+        requires { at ≡ seat_in (entries self.now) name }
+        ensures { result ≡ offer_below_of self.now name k v }
     {
-        let mut i = self.seat(name);
-        while 0 < i {
-            i -= 1;
+        for i in (0..at).rev() {
             let row = self.rows[i];
             if is_offered(row, k, k < end_of(row.name), v) {
-                return offer(row);
+                return Some(bound_of(row));
             }
         }
-        if k == 0 {
-            Offer::Is(Bound {
-                end: 0,
-                version: 0,
-                value: 0,
-            })
-        } else {
-            Offer::Nothing
-        }
+        offer_end(0, k)
     }
 
     // Round two above: the least entry from k down to but not the name that is k itself or has a version above v.
-    pub fn offer_above(self, name: u32, k: u32, v: u32) -> Offer
-        ensures { result ≡ offer_above_of self name k v }
+    fn offer_above(&self, at: usize, name: u32, k: u32, v: u32) -> Option<Bound>
+        requires { at ≡ seat_in (entries self.now) name }
+        ensures { result ≡ offer_above_of self.now name k v }
     {
         let n = self.used();
-        let mut i = self.next(name);
-        while i < n {
+        for i in self.next(at, name)..n {
             let row = self.rows[i];
             if is_offered(row, k, end_of(row.name) < k, v) {
-                return offer(row);
+                return Some(bound_of(row));
             }
-            i += 1;
         }
-        if k == Name::HIGH {
-            Offer::Is(Bound {
-                end: Name::HIGH,
-                version: 0,
-                value: 0,
-            })
-        } else {
-            Offer::Nothing
-        }
+        offer_end(Name::HIGH, k)
     }
 }

@@ -6,90 +6,55 @@ ghost use Rattle.member.specs.Tile.{entries, unused};
 use crate::{Member, Name, Row, Value, Version};
 
 // The ranges of an entry and of the gap above it.
+#[tactic(auto, unfolding(crate::specs::Sound::in_range))]
 pub fn in_range(row: Row) -> bool
     ensures { result ≡ in_range row }
 {
-    if Name::LARGEST < row.name {
-        return false;
-    }
-    if row.version == 0 {
-        return false;
-    }
-    if Version::LARGEST < row.version {
-        return false;
-    }
-    if Value::LARGEST < row.value {
-        return false;
-    }
-    row.gap <= Version::LARGEST
+    row.name <= Name::LARGEST
+        && 0 < row.version
+        && row.version <= Version::LARGEST
+        && row.value <= Value::LARGEST
+        && row.gap <= Version::LARGEST
 }
 
 // Does the place hold zero?
+#[tactic(auto, unfolding(crate::specs::Sound::is_none))]
 pub fn is_none(row: Row) -> bool
     ensures { result ≡ is_none row }
 {
-    if row.name != 0 {
-        return false;
-    }
-    if row.version != 0 {
-        return false;
-    }
-    if row.value != 0 {
-        return false;
-    }
-    row.gap == 0
+    row == Row::NONE
 }
 
 impl Member {
     // Do the entries ascend strictly, each within its ranges?
-    fn ascending(self) -> bool
-        ensures { result ≡ ascends 0 (entries self) }
+    fn ascending(&self) -> bool
+        ensures { result ≡ ascends 0 (entries self.now) }
     {
         let n = self.used();
         let mut from = 0;
-        let mut i = 0;
-        while i < n {
-            let row = self.rows[i];
-            if row.name < from {
+        for row in &self.rows[..n] {
+            if row.name < from || !in_range(*row) {
                 return false;
             }
-            if in_range(row) {
-                from = row.name + 1;
-                i += 1;
-            } else {
-                return false;
-            }
+            from = row.name + 1;
         }
         true
     }
 
     // Do the unused places hold zero?
-    fn rest_is_none(self) -> bool
-        ensures { result ≡ all_none (unused self) }
+    fn rest_is_none(&self) -> bool
+        ensures { result ≡ all_none (unused self.now) }
     {
-        let mut i = self.used();
-        while i < Member::SLOTS {
-            if is_none(self.rows[i]) {
-                i += 1;
-            } else {
-                return false;
-            }
-        }
-        true
+        self.rows[self.used()..].iter().all(|row| is_none(*row))
     }
 
-    pub fn is_sound(self) -> bool
-        ensures { result ≡ sound_member self }
+    #[tactic(auto, unfolding(crate::specs::Sound::sound_member))]
+    pub fn is_sound(&self) -> bool
+        ensures { result ≡ sound_member self.now }
     {
-        if Member::SLOTS < self.count {
-            return false;
-        }
-        if Version::LARGEST < self.low {
-            return false;
-        }
-        if self.ascending() {
-            return self.rest_is_none();
-        }
-        false
+        self.count <= Member::SLOTS
+            && self.low <= Version::LARGEST
+            && self.ascending()
+            && self.rest_is_none()
     }
 }

@@ -1,24 +1,15 @@
 -- The search for a newline: the bytes passed and those ahead up to it are all. Assumes nothing.
-use mathlib.Core.Path.{◌≡◌, refl, sym, ◌∙◌, ap}
-use mathlib.Core.Bool.{Bool, true, false}
-use Prim.Native.Nat.{ℕ, zero, suc, ◌+◌, ◌-◌, ◌≤◌, ◌<◌}
-use native.Mathlib.Numerals.{add-one}
-use native.Mathlib.Omega.{arith}
-use mathlib.Core.List.{List}
-use lib.ListN.{length, get_or, drop, drop_of_length-le, length-drop}
-use lib.Dec.{ltb}
-use borrow.Author.Tests.{eq-eqb, ne_eqb, ltb-true, ltb-false}
-use Rattle.text.proofs.Places.{byte_at}
+use Rattle.std.proofs.Common.{◌≡◌, refl, sym, ◌∙◌, ap, true, false, Bool, ℕ, zero, suc, ◌+◌, ◌-◌, ◌≤◌, ◌<◌, add-one, arith, List, [], ◌∷◌, length, get_or, drop, length-drop, get_or-drop, eqb, cond, eq-eqb, ne_eqb}
+use Rattle.std.proofs.lemmas.List.{drop_more}
 use Rattle.run.specs.Course.{newline, end_in}
-use Rattle.run.specs.LineLaws.{end_within_lem}
 
 pub at_newline : (l : List ℕ) (i : ℕ) → i < length l → get_or l i 0 ≡ 10 → end_in (drop i l) ≡ 0
 unfolding end_in newline
-at_newline l i h e = rw (byte_at l i h, eq-eqb (get_or l i 0) 10 e)
+at_newline l i h e = rw (drop_more l i 0 h, eq-eqb (get_or l i 0) 10 e)
 
 pub at_other : (l : List ℕ) (i : ℕ) → i < length l → (get_or l i 0 ≡ 10 → ⊥) → end_in (drop i l) ≡ end_in (drop (i + 1) l) + 1
 unfolding end_in newline
-at_other l i h e = rw (byte_at l i h, ne_eqb (get_or l i 0) 10 e) (sym (add-one (end_in (drop (i + 1) l))))
+at_other l i h e = rw (drop_more l i 0 h, ne_eqb (get_or l i 0) 10 e) (sym (add-one (end_in (drop (i + 1) l))))
 
 -- on the way to a newline that is ahead
 module _ (l : List ℕ) (i : ℕ) (h : i + end_in (drop i l) < length l) (e : get_or l i 0 ≡ 10 → ⊥) where
@@ -31,37 +22,32 @@ module _ (l : List ℕ) (i : ℕ) (h : i + end_in (drop i l) < length l) (e : ge
       let p = at_other l (i + 1) (omega (arith, passed)) f ∙ ap (λ (m : ℕ). end_in (drop m l) + 1) n in
       omega (arith, passed, p)
 
-pub at_end_lem : (l : List ℕ) (i : ℕ) → length l ≤ i → end_in (drop i l) ≡ 0
-unfolding end_in
-at_end_lem l i h = rw (drop_of_length-le l h)
+-- no byte is a newline
+none_in : (l : List ℕ) → ((k : ℕ) → k < length l → get_or l k 0 ≡ 10 → ⊥) → end_in l ≡ length l
+unfolding end_in newline
+none_in [] f = refl
+none_in (x ∷ l) f = rw (ne_eqb x 10 (f 0 (omega arith))) (ap suc (none_in l (λ k h. f (suc k) (omega arith))))
 
--- Every place on the way to an end has the same end.
-module _ (l : List ℕ) where
-  on-way : (i : ℕ) → 0 < end_in (drop i l) → i < length l
-  on-way i h = omega (arith, end_within_lem (drop i l), length-drop i l)
+-- a newline ends what is before it
+first_in : (l : List ℕ) (k : ℕ) → k < length l → get_or l k 0 ≡ 10 → end_in l ≤ k
+unfolding end_in newline
+first_in [] k h e = absurd (omega arith)
+first_in (x ∷ l) zero h e = rw (eq-eqb x 10 e) (omega arith)
+first_in (x ∷ l) (suc k) h e = go (eqb x 10) (first_in l k (omega arith) e)
+  where
+    go : (t : Bool) → end_in l ≤ k → cond t 0 (suc (end_in l)) ≤ suc k
+    go true m = omega arith
+    go false m = omega arith
 
-  same_end : (i k : ℕ) → k ≤ end_in (drop i l) → end_in (drop i l) ≡ k + end_in (drop (i + k) l)
-  same_end i zero h = let z : i + 0 ≡ i = omega arith in rw z (omega arith)
-  same_end i (suc k) h =
-      let p = same_end i k (omega arith) in
-      let w : i + k < length l = on-way (i + k) (omega arith) in
-      let o = at_other l (i + k) w (λ e. omega (arith, p, at_newline l (i + k) w e)) in
-      let n : i + suc k ≡ i + k + 1 = omega arith in
-      rw n (omega (arith, p, o))
+-- the same of what is behind a place
+module _ (l : List ℕ) (at : ℕ) where
+  pub none-ahead : at ≤ length l → ((k : ℕ) → at ≤ k → k < length l → get_or l k 0 ≡ 10 → ⊥) → at + end_in (drop at l) ≡ length l
+  none-ahead h f =
+      let none = none_in (drop at l) (λ k m e. f (at + k) (omega arith) (omega (arith, length-drop at l)) (sym (get_or-drop at l k 0) ∙ e)) in
+      omega (arith, none, length-drop at l)
 
-  pub end_at_lem : (i at : ℕ) → i ≤ at → at ≤ i + end_in (drop i l) → at + end_in (drop at l) ≡ i + end_in (drop i l)
-  end_at_lem i at h k =
-      let p = same_end i (at - i) (omega arith) in
-      let n : i + (at - i) ≡ at = omega arith in
-      let q : end_in (drop i l) ≡ (at - i) + end_in (drop at l) = p ∙ ap (λ (m : ℕ). (at - i) + end_in (drop m l)) n in
-      omega (arith, q)
-
-  -- a newline ends what is before it
-  pub newline-ahead : (i at : ℕ) → at ≤ i → i < length l → get_or l i 0 ≡ 10 → at + end_in (drop at l) ≤ i
-  newline-ahead i at h k e = go (ltb i (at + end_in (drop at l))) refl
-    where
-      go : (b : Bool) → ltb i (at + end_in (drop at l)) ≡ b → at + end_in (drop at l) ≤ i
-      go true t =
-          let p = ltb-true i (at + end_in (drop at l)) t in
-          absurd (omega (arith, end_at_lem at i h (omega arith), at_newline l i k e))
-      go false t = ltb-false i (at + end_in (drop at l)) t
+  pub newline-ahead : (i : ℕ) → at ≤ i → i < length l → get_or l i 0 ≡ 10 → at + end_in (drop at l) ≤ i
+  newline-ahead i h k e =
+      let n : at + (i - at) ≡ i = omega arith in
+      let first = first_in (drop at l) (i - at) (omega (arith, length-drop at l)) (get_or-drop at l (i - at) 0 ∙ ap (λ (m : ℕ). get_or l m 0) n ∙ e) in
+      omega (arith, first)

@@ -3,3 +3,4 @@ pub mod Ends
 pub mod Going
 pub mod Steps
 pub mod Whole
+pub mod Bounds

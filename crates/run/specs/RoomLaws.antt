@@ -1,9 +1,10 @@
 -- A run whose room is limited and that took n bytes is the run without limit over the first n bytes. So whatever chunks are
 -- handed over, and with whatever room, what is said is what the bytes that were taken are answered.
 use Rattle.std.specs.Prelude.{◌≡◌, refl, ℕ, zero, suc, ◌+◌, ◌-◌, ◌≤◌, ◌<◌, List, [], ◌∷◌, ◌++◌, true, false, ◌&&◌, length, take, drop, eqb}
-use Rattle.std.proofs.Common.{sym, ◌∙◌, ap, zero-add, suc-add, arith, append-nil, length-take, length-drop, take_all, take-take, length-take-le, ltb-true, ltb-false}
+use Rattle.std.proofs.Common.{sym, ◌∙◌, ap, arith, append-nil, length-take, length-drop, take_all, take-take, length-take-le, ltb-true, ltb-false}
 use Rattle.std.proofs.Math.Bool.{Bool, cond}
-use Rattle.std.proofs.Math.Seq.{take-nil, take-length}
+use Rattle.std.proofs.lemmas.List.{drop-take}
+use Rattle.std.proofs.Math.Seq.{take-length}
 use Rattle.std.proofs.Math.Dec.{ltb}
 use Rattle.text.specs.Answer.{text_of}
 use Rattle.suite.specs.Outcome.{answered}
@@ -38,12 +39,6 @@ end_take (suc n) (x ∷ l) h = go (eqb x newline) (end_take n l) h
         → cond t 0 (suc (end_in (take n l))) ≡ cond t 0 (suc (end_in l))
     go true k h = refl
     go false k h = ap suc (k (omega arith))
-
--- to drop of what was taken is to take of what was dropped
-drop-take : (n m : ℕ) (l : List ℕ) → drop n (take (n + m) l) ≡ take m (drop n l)
-drop-take zero m l = rw zero-add
-drop-take (suc n) m [] = rw (suc-add n m, take-nil m)
-drop-take (suc n) m (x ∷ l) = rw (suc-add n m) (drop-take n m l)
 
 -- the lines of a beginning that holds the first line whole
 lines-take : (l : List ℕ) (m : ℕ) → end_in l < length l

@@ -4,12 +4,12 @@ use Rattle.std.proofs.Math.Path.{refl, ap}
 use Rattle.std.proofs.Common.{sym, subst₂, ◌∙◌, arith}
 use Rattle.std.proofs.Math.Logic.{inl, inr}
 use mathlib.Core.List.{List, [], ◌∷◌}
-use Rattle.std.proofs.Math.Option.{Option, none, some}
-use Rattle.text.specs.Line.{command_of}
+use Rattle.std.specs.Prelude.{Option, None, Some}
+use Rattle.text.specs.Line.{command_of, ballots_of}
 use Rattle.text.specs.declared.Members.{Members}
 use Rattle.text.specs.declared.Command.{Command}
 use Rattle.text.specs.declared.Command.TheVariants as command
-use Rattle.text.specs.declared.Parsed.{Parsed}
+use Rattle.text.specs.declared.Creation.{Creation}
 use Rattle.text.specs.declared.Reply.{Reply}
 use Rattle.suite.specs.Sets.{total, all}
 use Rattle.suite.specs.Suite.{quorum, small_vote}
@@ -85,23 +85,23 @@ is_present a l false e = absurd (omega (arith, (first-zero a (first 11 l) e).1))
 module _ {s : Suite} {d : Directory} (p : Reached s d) where
   pub told-on : (o : Option Call) → (on_suite s o).reply ≡ told_on s d o
   unfolding on_suite told_on
-  told-on none = refl
-  told-on (some c) = ap (replied (spoken c)) (step-told p c)
+  told-on None = refl
+  told-on (Some c) = ap (replied (spoken c)) (step-told p c)
 
   pub goes_on : (o : Option Call) → Lined (on_suite s o).standing (next_on s d o)
   unfolding on_suite next_on
-  goes_on none = suited p
-  goes_on (some c) = suited (step-reached p c)
+  goes_on None = suited p
+  goes_on (Some c) = suited (step-reached p c)
 
   looked : (rs : Members) (n v q : ℕ) (u : Standing) (e : Directory) (b : Bool) → plain.present d n ≡ b →
-      Says (accepted s) d (command.Look rs n) u e (found (flag b ∷ v ∷ plain.value_of d n ∷ q ∷ []))
+      Says (accepted s) d (Some (command.Look rs n)) u e (found (flag b ∷ v ∷ plain.value_of d n ∷ q ∷ []))
   looked rs n v q u e true h = (rs, n, refl, h, refl)
   looked rs n v q u e false h = (rs, n, refl, h)
 
-  abbrev OnCall : Command → Call → Type 0
+  abbrev OnCall : Option Command → Call → Type 0
   OnCall k c = Says (accepted s) d k (accepted (step_of s c).suite) (follow d c (told_of s d c)) (replied (spoken c) (step_of s c).outcome)
 
-  on_call : (k : Command) (c : Call)
+  on_call : (k : Option Command) (c : Call)
       → (refusal_of s d c ≡ 0 → Says (accepted s) d k (accepted (step_of s c).suite) (applied d c) (spoken c (values_of s d c)))
       → OnCall k c
   on_call k c say = go (told_of s d c) refl
@@ -115,37 +115,37 @@ module _ {s : Suite} {d : Directory} (p : Reached s d) where
       go (refused n) h = after (refused n) h (ap accepted (step_keeps s c n (step-told p c ∙ h)), refl)
       go (answered vs) h = let t = answered-told s d c vs h in after (answered (values_of s d c)) (h ∙ ap answered t.1) (say t.0)
 
-  pub on-suite : (k : Command) → Says (accepted s) d k (on_suite s (call_for s k)).standing (next_on s d (call_for s k)) (on_suite s (call_for s k)).reply
+  pub on-suite : (k : Option Command) → Says (accepted s) d k (on_suite s (call_for s k)).standing (next_on s d (call_for s k)) (on_suite s (call_for s k)).reply
   unfolding on_suite next_on
-  on-suite (command.Look rs x) =
+  on-suite (Some (command.Look rs x)) =
       let c = lookup (set_of (ballots s) rs) x in
-      on_call (command.Look rs x) c
+      on_call (Some (command.Look rs x)) c
       (λ z. looked rs x (version_of (newest (answers s c))) (requests_of c) (accepted (step_of s c).suite) d (plain.present d x) refl)
-  on-suite (command.Near rs x) = on_call (command.Near rs x) (neighbours (set_of (ballots s) rs) x) (λ z. (rs, x, refl, refl, refl))
-  on-suite (command.Insert rs ws x v) =
+  on-suite (Some (command.Near rs x)) = on_call (Some (command.Near rs x)) (neighbours (set_of (ballots s) rs) x) (λ z. (rs, x, refl, refl, refl))
+  on-suite (Some (command.Insert rs ws x v)) =
       let c = insert (set_of (ballots s) rs) (set_of (ballots s) ws) x v in
-      on_call (command.Insert rs ws x v) c
+      on_call (Some (command.Insert rs ws x v)) c
       (λ z. (rs, ws, x, v, inl (refl, is_absent (own_refusal s c) (limit_refusal s d c) (plain.present d x) z, refl)))
-  on-suite (command.Update rs ws x v) =
+  on-suite (Some (command.Update rs ws x v)) =
       let c = update (set_of (ballots s) rs) (set_of (ballots s) ws) x v in
-      on_call (command.Update rs ws x v) c
+      on_call (Some (command.Update rs ws x v)) c
       (λ z. (rs, ws, x, v, inr (refl, is_present (own_refusal s c) (limit_refusal s d c) (plain.present d x) z, refl)))
-  on-suite (command.Remove rs ws x) =
+  on-suite (Some (command.Remove rs ws x)) =
       let c = remove (set_of (ballots s) rs) (set_of (ballots s) ws) x in
-      on_call (command.Remove rs ws x) c (λ z. (rs, ws, x, refl, is_present (own_refusal s c) (limit_refusal s d c) (plain.present d x) z, refl))
-  on-suite (command.Suite r w) = (refl, refl)
-  on-suite command.NotUnderstood = (refl, refl)
+      on_call (Some (command.Remove rs ws x)) c (λ z. (rs, ws, x, refl, is_present (own_refusal s c) (limit_refusal s d c) (plain.present d x) z, refl))
+  on-suite (Some (command.Suite r w)) = (refl, refl)
+  on-suite None = (refl, refl)
 
 -- Before a suite is accepted.
 module _ (s : Suite) where
-  made-or-not : (k : Command) (u : Suite) (o : Outcome) → Says (fresh s) [] k (created (fresh s) u o).standing [] (created (fresh s) u o).reply
+  made-or-not : (k : Option Command) (u : Suite) (o : Outcome) → Says (fresh s) [] k (created (fresh s) u o).standing [] (created (fresh s) u o).reply
   made-or-not k u (answered vs) = (refl, refl)
   made-or-not k u (refused n) = (refl, refl)
 
-  pub without-suite : (k : Command) (o : Option Result) → Says (fresh s) [] k (without_suite (fresh s) o).standing [] (without_suite (fresh s) o).reply
+  pub without-suite : (k : Option Command) (o : Option Result) → Says (fresh s) [] k (without_suite (fresh s) o).standing [] (without_suite (fresh s) o).reply
   unfolding without_suite
-  without-suite k none = (refl, refl)
-  without-suite k (some r) = made-or-not k r.suite r.outcome
+  without-suite k None = (refl, refl)
+  without-suite k (Some r) = made-or-not k r.suite r.outcome
 
   starts : (r : Result) → Starts r → Lined (created (fresh s) r.suite r.outcome).standing []
   unfolding Starts
@@ -155,29 +155,24 @@ module _ (s : Suite) where
       go (answered vs) h = suited (h vs refl)
       go (refused n) h = nothing s
 
-  pub starts-on : (q : Parsed) (k : Command) → Lined (without_suite (fresh s) (creation_for q k)).standing []
+  pub starts-on : (asked : Option Creation) → Lined (without_suite (fresh s) (creation_for asked)).standing []
   unfolding without_suite
-  starts-on q (command.Suite r w) =
-      starts (cond (ltb 8 q.count) (not_created 2) (create_of r w (take q.count q.votes)))
-      (asked_starts r w q.count q.votes (ltb 8 q.count))
-  starts-on q (command.Look rs x) = nothing s
-  starts-on q (command.Near rs x) = nothing s
-  starts-on q (command.Insert rs ws x v) = nothing s
-  starts-on q (command.Update rs ws x v) = nothing s
-  starts-on q (command.Remove rs ws x) = nothing s
-  starts-on q command.NotUnderstood = nothing s
+  starts-on (Some q) =
+      starts (cond (ltb 8 q.count) (not_created 2) (create_of q.read q.write (take q.count q.votes)))
+      (asked_starts q.read q.write q.count q.votes (ltb 8 q.count))
+  starts-on None = nothing s
 
 pub says : {t : Standing} {d : Directory} → Lined t d → (line : List ℕ) → SaysOf t d line (answer_of t line).reply
 unfolding answer_of next
-says (nothing s) line = without-suite s (command_of line).command (creation_for (command_of line) (command_of line).command)
-says (suited p) line = on-suite p (command_of line).command
+says (nothing s) line = without-suite s (command_of line) (creation_for (ballots_of line))
+says (suited p) line = on-suite p (command_of line)
 
 pub as_told : {t : Standing} {d : Directory} → Lined t d → (line : List ℕ) → (answer_of t line).reply ≡ told t d line
 unfolding answer_of told
 as_told (nothing s) line = refl
-as_told (suited {s} p) line = told-on p (call_for s (command_of line).command)
+as_told (suited {s} p) line = told-on p (call_for s (command_of line))
 
 pub stays_lined : {t : Standing} {d : Directory} → Lined t d → (line : List ℕ) → Lined (answer_of t line).standing (next t d line)
 unfolding answer_of next
-stays_lined (nothing s) line = starts-on s (command_of line) (command_of line).command
-stays_lined (suited {s} p) line = goes_on p (call_for s (command_of line).command)
+stays_lined (nothing s) line = starts-on s (ballots_of line)
+stays_lined (suited {s} p) line = goes_on p (call_for s (command_of line))

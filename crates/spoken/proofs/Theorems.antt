@@ -1,15 +1,15 @@
 -- A run of lines is answered as the plain directory tells, which got the accepted changes in order: its `at`, `none`, `near`, `ok` and `no`.
 -- The theorems; Lines has the definitions, and a line's answer is that of the line's contract.
-use Rattle.std.specs.Prelude.{◌≡◌, refl, ◌⊎◌, List, [], ◌∷◌, true, false, ℕ}
+use Rattle.std.specs.Prelude.{◌≡◌, refl, ◌⊎◌, List, [], ◌∷◌, None, Some, true, false, ℕ}
 use Rattle.std.proofs.Common.{subst}
 use Rattle.text.specs.Line.{command_of}
 use Rattle.text.specs.declared.Members.{Members}
 use Rattle.text.specs.declared.Command.TheVariants as command
 use Rattle.text.specs.declared.Reply.{Reply}
 use Rattle.text.specs.declared.Reply.TheVariants.{SuiteOk, Ok, Removed, At, Absent, Near, Refused}
-use Rattle.directory.specs.Lent.{suite_in}
+use Rattle.suite.specs.Create.{blank}
 use Rattle.line.specs.Standing.{Standing, answer_of}
-use Rattle.line.specs.Lent.{standing_in, fresh_state}
+use Rattle.line.specs.Lent.{standing_in}
 use Rattle.history.specs.Directory.{Directory}
 use Rattle.history.specs.Directory as plain
 use Rattle.spoken.specs.Lines.{Lined, nothing, told, next, replies, standing_after, tells, directory_after}
@@ -35,9 +35,9 @@ lines_faithful p [] = refl
 lines_faithful {t = t} {d = d} p (line ∷ l) =
     let r = line_faithful p line in λ j. r.0 j ∷ lines_faithful {t = (answer_of t line).standing} {d = next t d line} r.1 l j
 
--- above all from the beginning (`State::fresh`), whatever lies in the lent tiles, with the empty directory.
-pub from_beginning : (lent l : List (List ℕ)) → replies (standing_in fresh_state lent) l ≡ tells (standing_in fresh_state lent) [] l
-from_beginning lent l = lines_faithful (nothing (suite_in fresh_state.frame lent)) l
+-- above all from the beginning, where nothing stands, with the empty directory.
+pub from_beginning : (l : List (List ℕ)) → replies (standing_in None) l ≡ tells (standing_in None) [] l
+from_beginning l = lines_faithful (nothing blank) l
 
 module _ {t : Standing} {d : Directory} (p : Lined t d) (line : List ℕ) where
   says_of : (r : Reply) → (answer_of t line).reply ≡ r → SaysOf t d line r
@@ -46,30 +46,30 @@ module _ {t : Standing} {d : Directory} (p : Lined t d) (line : List ℕ) where
   -- The same, in parts: what each reply shows of the plain directory d before the line, and of `next t d line` after it.
   -- `at`: the name that was looked up is in the plain directory, with the value shown.
   pub at-shows : (v x : ℕ) → (answer_of t line).reply ≡ At v x →
-      (rs : Members) × (n : ℕ) × ((command_of line).command ≡ command.Look rs n) × (plain.present d n ≡ true) × (plain.value_of d n ≡ x)
+      (rs : Members) × (n : ℕ) × (command_of line ≡ Some (command.Look rs n)) × (plain.present d n ≡ true) × (plain.value_of d n ≡ x)
   at-shows v x e = says_of (At v x) e
 
   -- `none`: it is not.
   pub none-shows : (v : ℕ) → (answer_of t line).reply ≡ Absent v →
-      (rs : Members) × (n : ℕ) × ((command_of line).command ≡ command.Look rs n) × (plain.present d n ≡ false)
+      (rs : Members) × (n : ℕ) × (command_of line ≡ Some (command.Look rs n)) × (plain.present d n ≡ false)
   none-shows v e = says_of (Absent v) e
 
   -- `near`: what is shown are the plain directory's neighbours of the name.
   pub near-shows : (below above q : ℕ) → (answer_of t line).reply ≡ Near below above q →
-      (rs : Members) × (n : ℕ) × ((command_of line).command ≡ command.Near rs n) × (below ≡ plain.predecessor d n) × (above ≡ plain.successor d n)
+      (rs : Members) × (n : ℕ) × (command_of line ≡ Some (command.Near rs n)) × (below ≡ plain.predecessor d n) × (above ≡ plain.successor d n)
   near-shows below above q e = says_of (Near below above q) e
 
   -- `ok` with one number: an insert of an absent name, or an update of a present one, was made in the plain directory;
   pub ok-shows : (v : ℕ) → (answer_of t line).reply ≡ Ok v →
       (rs : Members) × (ws : Members) × (n : ℕ) × (x : ℕ)
-      × ((((command_of line).command ≡ command.Insert rs ws n x) × (plain.present d n ≡ false) × (next t d line ≡ plain.insert d n x))
-      ⊎ (((command_of line).command ≡ command.Update rs ws n x) × (plain.present d n ≡ true) × (next t d line ≡ plain.update d n x)))
+      × (((command_of line ≡ Some (command.Insert rs ws n x)) × (plain.present d n ≡ false) × (next t d line ≡ plain.insert d n x))
+      ⊎ ((command_of line ≡ Some (command.Update rs ws n x)) × (plain.present d n ≡ true) × (next t d line ≡ plain.update d n x)))
   ok-shows v e = says_of (Ok v) e
 
   -- with two: a present name was removed there.
   pub removed-shows : (v q : ℕ) → (answer_of t line).reply ≡ Removed v q →
       (rs : Members) × (ws : Members) × (n : ℕ)
-      × ((command_of line).command ≡ command.Remove rs ws n) × (plain.present d n ≡ true) × (next t d line ≡ plain.remove d n)
+      × (command_of line ≡ Some (command.Remove rs ws n)) × (plain.present d n ≡ true) × (next t d line ≡ plain.remove d n)
   removed-shows v q e = says_of (Removed v q) e
 
   -- `suite ok`: the first suite, with the empty directory.

@@ -1,7 +1,6 @@
 -- A run of lines, with the plain directory beside what stands.
-use Rattle.std.specs.Prelude.{List, [], ◌∷◌, false, cond, ℕ}
-use Rattle.std.proofs.Math.Option.{Option, none, some}
-use Rattle.text.specs.Line.{command_of}
+use Rattle.std.specs.Prelude.{List, [], ◌∷◌, Option, None, Some, false, cond, ℕ}
+use Rattle.text.specs.Line.{command_of, ballots_of}
 use Rattle.text.specs.declared.Reply.{Reply}
 use Rattle.text.specs.declared.Reply.TheVariants.{Refused}
 use Rattle.suite.specs.Calls.{Call}
@@ -24,21 +23,21 @@ pub data Lined : Standing → Directory → Type 0 where
 -- What a line is told where t stands and the plain directory is d: on an accepted suite what the plain directory tells of the call
 -- (the suite beside it gives versions, votes and room), in the line program's words; before that the directory has no part in it.
 unfoldable pub told_on : Suite → Directory → Option Call → Reply
-told_on s d none = Refused 14
-told_on s d (some c) = replied (spoken c) (told_of s d c)
+told_on s d None = Refused 14
+told_on s d (Some c) = replied (spoken c) (told_of s d c)
 
 unfoldable pub told : Standing → Directory → List ℕ → Reply
 told t d line =
-    cond t.made (told_on t.suite d (call_for t.suite (command_of line).command))
-    (without_suite t (creation_for (command_of line) (command_of line).command)).reply
+    cond t.made (told_on t.suite d (call_for t.suite (command_of line)))
+    (without_suite t (creation_for (ballots_of line))).reply
 
 -- The plain directory after the line: it got the change if that was accepted. A suite begins with the empty directory.
 unfoldable pub next_on : Suite → Directory → Option Call → Directory
-next_on s d none = d
-next_on s d (some c) = follow d c (told_of s d c)
+next_on s d None = d
+next_on s d (Some c) = follow d c (told_of s d c)
 
 unfoldable pub next : Standing → Directory → List ℕ → Directory
-next t d line = cond t.made (next_on t.suite d (call_for t.suite (command_of line).command)) []
+next t d line = cond t.made (next_on t.suite d (call_for t.suite (command_of line))) []
 
 -- what lines are answered, and what stands after them
 unfoldable pub replies : Standing → List (List ℕ) → List Reply

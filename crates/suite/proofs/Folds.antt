@@ -1,4 +1,5 @@
 -- From the table to the list of answers: what the code folds out of the rows is what the definitions settle from the answers.
+use Rattle.std.specs.Prelude.{Option, Some, None}
 use mathlib.Core.Path.{◌≡◌, refl, sym, ap, ◌∙◌}
 use mathlib.Core.List.{List, [], ◌∷◌, map}
 use mathlib.Core.Bool.{Bool, true, false, ◌&&◌, ◌||◌}
@@ -12,8 +13,6 @@ use Rattle.member.specs.declared.Reading.TheVariants.{Entry, Gap}
 use Rattle.member.specs.declared.Around.{Around}
 use Rattle.member.specs.declared.Side.{Side}
 use Rattle.member.specs.declared.Bound.{Bound}
-use Rattle.member.specs.declared.Offer.{Offer}
-use Rattle.member.specs.declared.Offer.TheVariants.{Is, Nothing}
 use Rattle.suite.specs.Best.{best}
 use Rattle.suite.specs.Sets.{all}
 use Rattle.suite.specs.Calls.{newer, higher, nearer, rank_below, rank_above, no_side, bound_or, offered_version}
@@ -91,32 +90,32 @@ around_newest l =
 -- Round two: the offers below and above of one member.
 
 pub record Both : Type 0 where
-  pub below : Offer
-  pub above : Offer
+  pub below : Option Bound
+  pub above : Option Bound
   pub within : end_within below
 
 abbrev pub both_row : Both → List ℕ
 both_row w = offers_row w.below w.above
 
 abbrev no_offers : Both
-no_offers = record { below = Nothing; above = Nothing; within = tt }
+no_offers = record { below = None; above = None; within = tt }
 
-offered-version : (o : Offer) → (bound_or o).version ≡ offered_version o
-offered-version (Is b) = refl
-offered-version Nothing = refl
+offered-version : (o : Option Bound) → (bound_or o).version ≡ offered_version o
+offered-version (Some b) = refl
+offered-version None = refl
 
 rank_within_lem : (w : Both) → rank_within w.below ≡ rank_below w.below
 rank_within_lem w = go w.below w.within
   where
-    go : (o : Offer) → end_within o → rank_within o ≡ rank_below o
-    go (Is b) h = simp (le-leb b.end high h)
-    go Nothing h = refl
+    go : (o : Option Bound) → end_within o → rank_within o ≡ rank_below o
+    go (Some b) h = simp (le-leb b.end high h)
+    go None h = refl
 
 abbrev pub bound_at : List ℕ → ℕ → ℕ → ℕ → Bound
 bound_at row i j k = record { end = get_or row i 0; version = get_or row j 0; value = get_or row k 0 }
 
 pub predecessor_row : (l : List Both)
-    → bound_at (best (beats_at 0 2) no_row (map both_row l)) 1 2 3 ≡ bound_or (best (nearer rank_below) Nothing (map (λ w. w.below) l))
+    → bound_at (best (beats_at 0 2) no_row (map both_row l)) 1 2 3 ≡ bound_or (best (nearer rank_below) None (map (λ w. w.below) l))
 unfolding offers_row
 predecessor_row l =
     ap (λ row. bound_at row 1 2 3) (best-map (beats_at 0 2) both_row no_offers l)
@@ -126,7 +125,7 @@ predecessor_row l =
     ∙ ap bound_or (sym (best-map (nearer rank_below) (λ (w : Both). w.below) no_offers l))
 
 pub successor_row : (l : List Both)
-    → bound_at (best (beats_at 4 6) no_row (map both_row l)) 5 6 7 ≡ bound_or (best (nearer rank_above) Nothing (map (λ w. w.above) l))
+    → bound_at (best (beats_at 4 6) no_row (map both_row l)) 5 6 7 ≡ bound_or (best (nearer rank_above) None (map (λ w. w.above) l))
 unfolding offers_row
 successor_row l =
     ap (λ row. bound_at row 5 6 7) (best-map (beats_at 4 6) both_row no_offers l)

@@ -14,3 +14,4 @@ pub mod Surveys
 pub mod Stepping
 pub mod Surveying
 pub mod Calling
+pub mod Reading

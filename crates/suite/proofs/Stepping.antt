@@ -1,4 +1,5 @@
 -- The steps of the code, put together, are the calls of the definitions.
+use Rattle.std.specs.Prelude.{None}
 use mathlib.Core.Path.{◌≡◌, refl, sym, ap, ◌∙◌}
 use mathlib.Core.List.{List, [], ◌∷◌, ◌++◌}
 use mathlib.Core.Bool.{Bool, true, false, cond}
@@ -9,7 +10,6 @@ use lib.ListN.{length}
 use Rattle.member.specs.Limits.{largest_version}
 use Rattle.member.specs.declared.Reading.{Reading}
 use Rattle.member.specs.declared.Reading.TheVariants.{Entry, Gap}
-use Rattle.member.specs.declared.Offer.TheVariants.{Nothing}
 use Rattle.suite.specs.Best.{best}
 use Rattle.suite.specs.Sets.{changed, exists}
 use Rattle.suite.specs.Suite.{tiles, ballots, with_tiles}
@@ -20,10 +20,10 @@ use Rattle.suite.specs.Steps.{granted_of, put_of, gap_of, join_of}
 use Rattle.suite.specs.Requests.{answers-length}
 use Rattle.suite.specs.AnswerLaws.{skip-last, skip_first, put-newest, put_fits, remove_survey, join_fits}
 use Rattle.suite.specs.declared.Suite.{Suite}
-use Rattle.suite.specs.declared.Question.{Question}
-use Rattle.suite.specs.declared.Question.TheVariants as question
-use Rattle.suite.specs.declared.Effect.{Effect}
-use Rattle.suite.specs.declared.Effect.TheVariants as effect
+use Rattle.suite.specs.Question.{Question}
+use Rattle.suite.specs.Question as question
+use Rattle.suite.specs.Effect.{Effect}
+use Rattle.suite.specs.Effect as effect
 use Rattle.suite.specs.declared.rounds.Survey.{Survey}
 
 -- What the two rounds come to: the readings and gaps are round one's, the neighbours round two's.
@@ -45,8 +45,8 @@ rounds_survey s set x =
     let reading = ap (best newer (Gap 0)) (skip-last s set q its_reading (λ m. refl) one) in
     let lower = ap (best higher no_side) (skip-last s set q its_below (λ m. refl) one) in
     let upper = ap (best higher no_side) (skip-last s set q its_above (λ m. refl) one) in
-    let below = ap (best (nearer rank_below) Nothing) (skip_first s set (question.Around x) its_offer_below (λ m. refl) two) in
-    let above = ap (best (nearer rank_above) Nothing) (skip_first s set (question.Around x) its_offer_above (λ m. refl) two) in
+    let below = ap (best (nearer rank_below) None) (skip_first s set (question.Around x) its_offer_below (λ m. refl) two) in
+    let above = ap (best (nearer rank_above) None) (skip_first s set (question.Around x) its_offer_above (λ m. refl) two) in
     λ j.
     record {
       reading = sym reading j;

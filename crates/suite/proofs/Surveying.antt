@@ -10,7 +10,7 @@ use Rattle.suite.specs.Suite.{tiles}
 use Rattle.suite.specs.Calls.{asked_of, round_one, rounds, gap_below_in, gap_above_in, predecessor, successor}
 use Rattle.suite.specs.Rows.{no_row, row_reading, beats_at, survey_of}
 use Rattle.suite.specs.declared.Suite.{Suite}
-use Rattle.suite.specs.declared.Question.TheVariants as question
+use Rattle.suite.specs.Question as question
 use Rattle.suite.specs.declared.rounds.Survey.{Survey}
 use Rattle.suite.proofs.Folds.{side_of, bound_at}
 use Rattle.suite.proofs.Surveys.{answer_table, below-is, above-is, reading_is, predecessor_is, successor_is}

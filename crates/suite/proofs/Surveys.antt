@@ -1,7 +1,8 @@
 -- What the code reads out of its tables is what the answers of the members come to.
+use Rattle.std.specs.Prelude.{None}
 use mathlib.Core.Path.{◌≡◌, refl, sym, ap, ◌∙◌}
 use mathlib.Core.List.{List, [], ◌∷◌, map}
-use mathlib.Core.Bool.{Bool}
+use mathlib.Core.Bool.{Bool, ◌&&◌}
 use Prim.Native.Nat.{ℕ, ◌^◌, ◌<◌}
 use lib.ListN.{length}
 use Rattle.member.specs.Tile.{reading_of}
@@ -10,19 +11,18 @@ use Rattle.member.specs.declared.Member.{Member}
 use Rattle.member.specs.declared.Reading.TheVariants.{Gap}
 use Rattle.member.specs.declared.Around.{Around}
 use Rattle.member.specs.declared.Side.{Side}
-use Rattle.member.specs.declared.Offer.{Offer}
 use Rattle.suite.specs.Best.{best}
 use Rattle.suite.specs.Sets.{chosen, all}
 use Rattle.suite.specs.Suite.{tiles}
 use Rattle.suite.specs.Calls.{Answer, answer_to, asked_of, picked, its_reading, its_below, its_above, its_offer_below, its_offer_above, its_fit, newer, higher, nearer, rank_below, rank_above, no_side, bound_or, newest, reading_answers, round_one, gap_below_in, gap_above_in, predecessor, successor, all_fit}
-use Rattle.suite.specs.Rows.{row_of, no_row, reading_row, around_row, fit_row, row_reading, beats_at, is_set, table_of}
+use Rattle.suite.specs.Rows.{row_of, no_row, reading_row, around_row, row_reading, beats_at, table_of}
 use Rattle.suite.specs.SetLaws.{chosen_table}
 use Rattle.suite.specs.AnswerLaws.{picked_one}
 use Rattle.suite.specs.declared.Suite.{Suite}
-use Rattle.suite.specs.declared.Question.{Question}
-use Rattle.suite.specs.declared.Question.TheVariants as question
+use Rattle.suite.specs.Question.{Question}
+use Rattle.suite.specs.Question as question
 use Rattle.suite.proofs.Bounds.{below_within}
-use Rattle.suite.proofs.Folds.{newest_row, side_of, below_row, above_row, around_newest, Both, both_row, bound_at, predecessor_row, successor_row, fits_row}
+use Rattle.suite.proofs.Folds.{newest_row, side_of, below_row, above_row, around_newest, Both, both_row, bound_at, predecessor_row, successor_row}
 
 map-map : {A B C : Type 0} (f : B → C) (g : A → B) (l : List A) → map (λ a. f (g a)) l ≡ map f (map g l)
 map-map f g [] = refl
@@ -111,24 +111,22 @@ module _ (s : Suite) (set : ℕ) (h : set < 2 ^ length (tiles s)) where
       predecessor_is =
           ap (λ l. bound_at (best (beats_at 0 2) no_row l) 1 2 3) two_is
           ∙ predecessor_row (map both ms)
-          ∙ ap (λ l. bound_or (best (nearer rank_below) Offer.Nothing l)) (sym (of_two its_offer_below (λ w. w.below) (λ m. refl)))
+          ∙ ap (λ l. bound_or (best (nearer rank_below) None l)) (sym (of_two its_offer_below (λ w. w.below) (λ m. refl)))
 
       pub successor_is : bound_at (best (beats_at 4 6) no_row (chosen (answer_table s set q) set)) 5 6 7 ≡ successor (asked_of s set q)
       successor_is =
           ap (λ l. bound_at (best (beats_at 4 6) no_row l) 5 6 7) two_is
           ∙ successor_row (map both ms)
-          ∙ ap (λ l. bound_or (best (nearer rank_above) Offer.Nothing l)) (sym (of_two its_offer_above (λ w. w.above) (λ m. refl)))
+          ∙ ap (λ l. bound_or (best (nearer rank_above) None l)) (sym (of_two its_offer_above (λ w. w.above) (λ m. refl)))
 
-  -- whether a call fits every member written
-  pub fits-is : (q : Question) (g : Member → Bool) → ((m : Member) → answer_to q m ≡ Answer.fits (g m))
-      → all is_set (chosen (answer_table s set q) set) ≡ all_fit (asked_of s set q)
-  unfolding row_of
-  fits-is q g e =
-      ap (all is_set) (rows_of q fit_row g (λ m. ap row_of (e m)))
-      ∙ fits_row (map g ms)
-      ∙ ap (all (λ b. b)) (sym (picked_one its_fit g q (λ m. ap its_fit (e m)) 0 (tiles s) set))
+all_map : {A : Type 0} (g : A → Bool) (l : List A) → all g l ≡ all (λ b. b) (map g l)
+unfolding all
+all_map g [] = refl
+all_map g (a ∷ l) = ap (λ t. g a && t) (all_map g l)
 
-  -- the same of a table that has been filled
-  pub fits-asked : (q : Question) (g : Member → Bool) → ((m : Member) → answer_to q m ≡ Answer.fits (g m)) → (table : List (List ℕ))
-      → table ≡ answer_table s set q → all is_set (chosen table set) ≡ all_fit (asked_of s set q)
-  fits-asked q g e table t = ap (λ l. all is_set (chosen l set)) t ∙ fits-is q g e
+-- the members that the set names all fit where each one's answer says so
+pub fit_lem : (room : Member → Bool) (s : Suite) (set : ℕ) (q : Question) → ((m : Member) → answer_to q m ≡ Answer.fits (room m))
+    → all room (chosen (tiles s) set) ≡ all_fit (asked_of s set q)
+fit_lem room s set q r =
+    all_map room (chosen (tiles s) set)
+    ∙ ap (all (λ b. b)) (sym (picked_one its_fit room q (λ m. ap its_fit (r m)) 0 (tiles s) set))

@@ -1,9 +1,9 @@
 -- Which of a call's answers a part of its result is settled from.
+use Rattle.std.specs.Prelude.{None}
 use Rattle.std.specs.Prelude.{◌≡◌, refl, List, [], ◌∷◌, ◌++◌, map, Bool, true, false, cond, ℕ, suc, ◌/◌, ◌%◌, eqb}
 use Rattle.std.proofs.Common.{sym, ap, ◌∙◌, append_assoc, append-nil}
 use Rattle.member.specs.declared.Member.{Member}
 use Rattle.member.specs.declared.Reading.TheVariants.{Gap}
-use Rattle.member.specs.declared.Offer.TheVariants.{Nothing}
 use Rattle.suite.specs.Best.{best}
 use Rattle.suite.specs.Sets.{chosen, all}
 use Rattle.suite.specs.Suite.{tiles}
@@ -11,8 +11,8 @@ use Rattle.suite.specs.Calls.{remove, Answer, Marked, answer_to, asked, asked_of
 use Rattle.suite.specs.Rows.{survey_of}
 use Rattle.suite.specs.declared.Suite.{Suite}
 use Rattle.suite.specs.declared.rounds.Survey.{Survey}
-use Rattle.suite.specs.declared.Question.{Question}
-use Rattle.suite.specs.declared.Question.TheVariants as question
+use Rattle.suite.specs.Question.{Question}
+use Rattle.suite.specs.Question as question
 
 pub picked-append : {A : Type 0} (f : Answer → List A) (a b : List Marked) → picked f (a ++ b) ≡ picked f a ++ picked f b
 unfolding picked
@@ -75,8 +75,8 @@ join_survey s ws p n l =
     let reading = ap (best newer (Gap 0)) (skip-last s ws q its_reading (λ m. refl) l) in
     let lower = ap (best higher no_side) (skip-last s ws q its_below (λ m. refl) l) in
     let upper = ap (best higher no_side) (skip-last s ws q its_above (λ m. refl) l) in
-    let below = ap (best (nearer rank_below) Nothing) (skip-last s ws q its_offer_below (λ m. refl) l) in
-    let above = ap (best (nearer rank_above) Nothing) (skip-last s ws q its_offer_above (λ m. refl) l) in
+    let below = ap (best (nearer rank_below) None) (skip-last s ws q its_offer_below (λ m. refl) l) in
+    let above = ap (best (nearer rank_above) None) (skip-last s ws q its_offer_above (λ m. refl) l) in
     λ j. record { reading = reading j; lower = (lower j).version; upper = (upper j).version; below = bound_or (below j); above = bound_or (above j) }
 
 pub remove_survey : (s : Suite) (rs ws x : ℕ) → survey_of (answers s (remove rs ws x)) ≡ survey_of (rounds s rs x)

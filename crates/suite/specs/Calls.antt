@@ -1,5 +1,7 @@
 -- The calls: the members' answers come first, and the result is settled from them.
-use Rattle.std.specs.Prelude.{List, [], ◌∷◌, ◌++◌, Bool, cond, ◌&&◌, ◌||◌, ℕ, suc, ◌+◌, ◌-◌, max, length, ltb, eqb}
+use Rattle.std.specs.Prelude.{Option, Some, None}
+use Rattle.std.specs.Prelude as prelude
+use Rattle.std.specs.Prelude.{Ok, Err, List, [], ◌∷◌, ◌++◌, Bool, cond, ◌&&◌, ◌||◌, ℕ, suc, ◌+◌, ◌-◌, max, length, ltb, eqb}
 use Rattle.member.specs.Limits.{largest_name, largest_value, largest_version, high}
 use Rattle.member.specs.Tile.{reading_of}
 use Rattle.member.specs.Rounds.{around_of, offer_below_of, offer_above_of, bare}
@@ -10,18 +12,17 @@ use Rattle.member.specs.declared.Reading.TheVariants.{Entry, Gap}
 use Rattle.member.specs.declared.Around.{Around}
 use Rattle.member.specs.declared.Side.{Side}
 use Rattle.member.specs.declared.Bound.{Bound}
-use Rattle.member.specs.declared.Offer.{Offer}
-use Rattle.member.specs.declared.Offer.TheVariants.{Is, Nothing}
 use Rattle.suite.specs.Best.{best}
 use Rattle.suite.specs.Sets.{chosen, changed, exists, votes_of, all}
 use Rattle.suite.specs.Suite.{tiles, ballots, with_tiles, sound_suite}
 use Rattle.suite.specs.Outcome.{Outcome, answered, refused, reading_values, change_of}
 use Rattle.suite.specs.declared.Suite.{Suite}
-use Rattle.suite.specs.declared.Changed.{Changed}
-use Rattle.suite.specs.declared.Question.{Question}
-use Rattle.suite.specs.declared.Question.TheVariants as question
-use Rattle.suite.specs.declared.Effect.{Effect}
-use Rattle.suite.specs.declared.Effect.TheVariants as effect
+use Rattle.suite.specs.declared.Done.{Done}
+use Rattle.suite.specs.declared.Refusal.{Refusal}
+use Rattle.suite.specs.Question.{Question}
+use Rattle.suite.specs.Question as question
+use Rattle.suite.specs.Effect.{Effect}
+use Rattle.suite.specs.Effect as effect
 
 -- a call with its own numbers: read set, write set where there is one, name, value
 pub data Call : Type 0 where
@@ -35,7 +36,7 @@ pub data Call : Type 0 where
 pub data Answer : Type 0 where
   reads : Reading → Answer
   sees : Around → Answer
-  offers : Offer → Offer → Answer
+  offers : Option Bound → Option Bound → Answer
   fits : Bool → Answer
 
 -- the member's answer to a question
@@ -83,13 +84,13 @@ its_above (sees a) = a.above ∷ []
 its_above (offers o p) = []
 its_above (fits b) = []
 
-abbrev pub its_offer_below : Answer → List Offer
+abbrev pub its_offer_below : Answer → List (Option Bound)
 its_offer_below (reads r) = []
 its_offer_below (sees a) = []
 its_offer_below (offers o p) = o ∷ []
 its_offer_below (fits b) = []
 
-abbrev pub its_offer_above : Answer → List Offer
+abbrev pub its_offer_above : Answer → List (Option Bound)
 its_offer_above (reads r) = []
 its_offer_above (sees a) = []
 its_offer_above (offers o p) = p ∷ []
@@ -130,31 +131,31 @@ gap_above_in l = best higher no_side (picked its_above l)
 
 -- Round two. The predecessor is the greatest of these names, with the highest version among those offering it and, on a tie,
 -- the lowest-numbered member's value. Above is the mirror image: the least of the names, so the greatest of its distances from HIGH.
-abbrev pub rank_below : Offer → ℕ
-rank_below (Is b) = b.end + 1
-rank_below Nothing = 0
+abbrev pub rank_below : Option Bound → ℕ
+rank_below (Some b) = b.end + 1
+rank_below None = 0
 
-abbrev pub rank_above : Offer → ℕ
-rank_above (Is b) = high + 1 - b.end
-rank_above Nothing = 0
+abbrev pub rank_above : Option Bound → ℕ
+rank_above (Some b) = high + 1 - b.end
+rank_above None = 0
 
-abbrev pub offered_version : Offer → ℕ
-offered_version (Is b) = b.version
-offered_version Nothing = 0
+abbrev pub offered_version : Option Bound → ℕ
+offered_version (Some b) = b.version
+offered_version None = 0
 
-abbrev pub nearer : (Offer → ℕ) → Offer → Offer → Bool
+abbrev pub nearer : (Option Bound → ℕ) → Option Bound → Option Bound → Bool
 nearer rank b a = ltb (rank a) (rank b) || (eqb (rank a) (rank b) && ltb (offered_version a) (offered_version b))
 
 -- in a sound suite there is always an offer
-abbrev pub bound_or : Offer → Bound
-bound_or (Is b) = b
-bound_or Nothing = bare 0
+abbrev pub bound_or : Option Bound → Bound
+bound_or (Some b) = b
+bound_or None = bare 0
 
 abbrev pub predecessor : List Marked → Bound
-predecessor l = bound_or (best (nearer rank_below) Nothing (picked its_offer_below l))
+predecessor l = bound_or (best (nearer rank_below) None (picked its_offer_below l))
 
 abbrev pub successor : List Marked → Bound
-successor l = bound_or (best (nearer rank_above) Nothing (picked its_offer_above l))
+successor l = bound_or (best (nearer rank_above) None (picked its_offer_above l))
 
 -- the answers of the two rounds: the questions of round two come from the answers of round one
 abbrev pub reading_answers : Suite → ℕ → ℕ → List Marked
@@ -250,8 +251,9 @@ pub record Result : Type 0 where
   pub outcome : Outcome
   pub suite : Suite
 
-abbrev pub result_of : Changed → Result
-result_of c = record { outcome = change_of c.answer; suite = c.suite }
+-- what a change answers, with the suite that it leaves
+abbrev pub result_of : prelude.Result Done Refusal → Suite → Result
+result_of a s = record { outcome = change_of a; suite = s }
 
 -- A refusal returns its number alone; the suite stays as it was.
 abbrev pub resulting : Suite → Call → List Marked → Outcome → Result

@@ -1,12 +1,13 @@
 -- Creation takes R, W and a list of votes, one for each member; all members start fresh.
-use Rattle.std.specs.Prelude.{List, [], ◌++◌, cond, ◌&&◌, ℕ, ◌-◌, length, replicate, leb}
+use Rattle.std.specs.Prelude as prelude
+use Rattle.std.specs.Prelude.{Ok, Err, List, [], ◌++◌, cond, ◌&&◌, ℕ, ◌-◌, length, replicate, leb}
 use Rattle.member.specs.Tile.{fresh_tile}
 use Rattle.suite.specs.Sets.{total, all}
 use Rattle.suite.specs.Suite.{quorum, small_vote}
-use Rattle.suite.specs.Outcome.{answered, refused, creation_of}
+use Rattle.suite.specs.Outcome.{answered, refused, number_of}
 use Rattle.suite.specs.Calls.{Result}
 use Rattle.suite.specs.declared.Suite.{Suite}
-use Rattle.suite.specs.declared.Created.{Created}
+use Rattle.suite.specs.declared.Refusal.{Refusal}
 
 -- unused votes hold zero
 abbrev pub padded : List ℕ → List ℕ
@@ -32,5 +33,6 @@ create_of r w votes =
     (not_created 3))
     (not_created 2)
 
-abbrev pub created_of : Created → Result
-created_of c = record { outcome = creation_of c.answer; suite = c.suite }
+abbrev pub created_of : prelude.Result Suite Refusal → Result
+created_of (Ok s) = record { outcome = answered []; suite = s }
+created_of (Err r) = not_created (number_of r)

@@ -1,4 +1,6 @@
 -- A call on a sound suite leaves a sound suite.
+use Rattle.member.specs.declared.Bound.{Bound}
+use Rattle.std.specs.Prelude.{Option, Some, None}
 use Rattle.std.specs.Prelude.{◌≡◌, refl, List, [], ◌∷◌, ◌++◌, Bool, true, false, cond, ℕ, zero, suc, ◌+◌, ◌/◌, ◌%◌, ◌≤◌, length, take, drop, eqb}
 use Rattle.std.proofs.Common.{ap, arith}
 use Rattle.std.proofs.Math.Bool.{and-eq-true_iff}
@@ -7,8 +9,6 @@ use Rattle.member.specs.Sound.{sound_member}
 use Rattle.member.specs.SoundLaws.{BoundRange, write_sound, coalesce_sound}
 use Rattle.member.specs.OfferLaws.{OfferWithin}
 use Rattle.member.specs.declared.Member.{Member}
-use Rattle.member.specs.declared.Offer.{Offer}
-use Rattle.member.specs.declared.Offer.TheVariants.{Is, Nothing}
 use Rattle.suite.specs.Best.{best}
 use Rattle.suite.specs.Sets.{changed, all}
 use Rattle.suite.specs.Suite.{tiles, ballots, with_tiles, sound_suite}
@@ -74,13 +74,13 @@ with_sound s t h k e =
       fresh-places = rw (drop_front s.count s.members t h) p.fresh-places;
     }
 
-bound_range : (a c : ℕ) (o : Offer) → OfferWithin a c o → BoundRange (bound_or o)
-bound_range a c (Is b) w = w.range
-bound_range a c Nothing w = record { named = λ p q. absurd (omega arith); version-max = omega arith; value-max = omega arith }
+bound_range : (a c : ℕ) (o : Option Bound) → OfferWithin a c o → BoundRange (bound_or o)
+bound_range a c (Some b) w = w.range
+bound_range a c None w = record { named = λ p q. absurd (omega arith); version-max = omega arith; value-max = omega arith }
 
-bound_end : (a : ℕ) (o : Offer) → OfferWithin a (high + 1) o → (bound_or o).end ≤ high
-bound_end a (Is b) w = omega (arith, w.to)
-bound_end a Nothing w = omega arith
+bound_end : (a : ℕ) (o : Option Bound) → OfferWithin a (high + 1) o → (bound_or o).end ≤ high
+bound_end a (Some b) w = omega (arith, w.to)
+bound_end a None w = omega arith
 
 -- what an accepted call writes to a sound member leaves it sound
 written_sound : (s : Suite) (c : Call) (vs : List ℕ) → sound_suite s ≡ true → settled s c ≡ answered vs
@@ -93,8 +93,8 @@ written_sound s c vs h g m k =
         → sound_member (written (remove rs ws x) (answers s (remove rs ws x)) m) ≡ true
     removed rs ws x a v =
         let l = answers s (remove rs ws x) in
-        let o = best (nearer rank_below) Nothing (picked its_offer_below (rounds s rs x)) in
-        let p = best (nearer rank_above) Nothing (picked its_offer_above (rounds s rs x)) in
+        let o = best (nearer rank_below) None (picked its_offer_below (rounds s rs x)) in
+        let p = best (nearer rank_above) None (picked its_offer_above (rounds s rs x)) in
         let below = found-offer (facing_below x a) s rs h in
         let above = found-offer (facing_above x a) s rs h in
         let end : (successor l).end ≤ high = rw (remove-successor s rs ws x) (bound_end (x + 2) p above) in

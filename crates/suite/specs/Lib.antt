@@ -1,3 +1,5 @@
+pub mod Effect
+pub mod Question
 pub mod Best
 pub mod Sets
 pub mod Suite
@@ -19,3 +21,4 @@ pub mod SuiteLaws
 pub mod AnswerLaws
 pub mod Neighbours
 pub mod Kept
+pub mod Asking

@@ -1,4 +1,6 @@
 -- What the two rounds find in a sound suite: bounds in range, the predecessor below x and the successor above it.
+use Rattle.member.specs.declared.Bound.{Bound}
+use Rattle.std.specs.Prelude.{Option, Some, None}
 use Rattle.std.specs.Prelude.{◌≡◌, refl, Bool, true, false, ◌&&◌, ◌||◌, ℕ, ◌+◌, ◌≤◌, ◌<◌, length, ltb, eqb}
 use Rattle.std.proofs.Math.Path.{ap}
 use Rattle.std.proofs.Common.{◌∙◌, ltb-true, ltb-false, eqb-true}
@@ -12,8 +14,6 @@ use Rattle.member.specs.Sound.{sound_member}
 use Rattle.member.specs.OfferLaws.{Within, OfferWithin, IsOffer, below_end, above-end, offer-below, offer-above, own_below, own-above}
 use Rattle.member.specs.declared.Member.{Member}
 use Rattle.member.specs.declared.Side.{Side}
-use Rattle.member.specs.declared.Offer.{Offer}
-use Rattle.member.specs.declared.Offer.TheVariants.{Is, Nothing}
 use Rattle.suite.specs.Best.{best, best_from}
 use Rattle.suite.specs.BestLaws.{best-map, best-each}
 use Rattle.suite.specs.Sets.{chosen, exists, total, votes_of, all}
@@ -23,7 +23,7 @@ use Rattle.suite.specs.SuiteLaws.{suite_parts, quorum_parts}
 use Rattle.suite.specs.Calls.{Answer, Marked, answer_to, asked_of, picked, its_below, its_above, its_offer_below, its_offer_above, higher, no_side, gap_below_in, gap_above_in, rank_below, rank_above, nearer, offered_version, bound_or, predecessor, successor, round_one, rounds}
 use Rattle.suite.specs.AnswerLaws.{picked_one, skip_first}
 use Rattle.suite.specs.declared.Suite.{Suite}
-use Rattle.suite.specs.declared.Question.TheVariants as question
+use Rattle.suite.specs.Question as question
 
 each_mapped : {A B : Type 0} (Q : A → Type 0) (P : B → Type 0) (f : A → B) → ((a : A) → Q a → P (f a)) → (l : List A) → Each Q l → Each P (map f l)
 each_mapped Q P f h [] k = tt
@@ -46,17 +46,17 @@ pub record Facing (x : ℕ) : Type 0 where
   pub least : ℕ
   pub limit : ℕ
   pub its_side : Answer → List Side
-  pub its_offer : Answer → List Offer
-  pub rank : Offer → ℕ
+  pub its_offer : Answer → List (Option Bound)
+  pub rank : Option Bound → ℕ
   pub side : Member → Side
-  pub offer : Side → Member → Offer
+  pub offer : Side → Member → Option Bound
   pub of_both : Side → Side → Side
   pub gives-side : (m : Member) → its_side (answer_to (question.Around x) m) ≡ side m ∷ []
   pub gives_none : (m : Member) → its_offer (answer_to (question.Around x) m) ≡ []
   pub gives-offer : (b a : Side) (m : Member) → its_offer (answer_to (question.Offers x b a) m) ≡ offer (of_both b a) m ∷ []
   pub of-both : (l : List Marked) → of_both (gap_below_in l) (gap_above_in l) ≡ best higher no_side (picked its_side l)
-  pub ranks-none : rank Nothing ≡ 0
-  pub ranks : (o : Offer) → IsOffer o → OfferWithin least limit o → 1 ≤ rank o
+  pub ranks-none : rank None ≡ 0
+  pub ranks : (o : Option Bound) → IsOffer o → OfferWithin least limit o → 1 ≤ rank o
   pub fits : (m : Member) → Sound m → (side m).end ≤ high
   pub own : (m : Member) → Sound m → IsOffer (offer (side m) m)
   pub within : (b : Side) → b.end ≤ high → (m : Member) → Sound m → OfferWithin least limit (offer b m)
@@ -83,9 +83,9 @@ facing_below x h =
       within = λ b k m e. offer-below m x e h b.end b.version;
     }
   where
-    ranks : (o : Offer) → IsOffer o → OfferWithin 0 (x + 1) o → 1 ≤ rank_below o
-    ranks (Is b) t w = omega arith
-    ranks Nothing t w = absurd t
+    ranks : (o : Option Bound) → IsOffer o → OfferWithin 0 (x + 1) o → 1 ≤ rank_below o
+    ranks (Some b) t w = omega arith
+    ranks None t w = absurd t
 
 abbrev pub facing_above : (x : ℕ) → x ≤ largest_name → Facing x
 facing_above x h =
@@ -109,13 +109,13 @@ facing_above x h =
       within = λ a k m e. offer-above m x e h a.end a.version k;
     }
   where
-    ranks : (o : Offer) → IsOffer o → OfferWithin (x + 2) (high + 1) o → 1 ≤ rank_above o
-    ranks (Is b) t w = omega (arith, w.to)
-    ranks Nothing t w = absurd t
+    ranks : (o : Option Bound) → IsOffer o → OfferWithin (x + 2) (high + 1) o → 1 ≤ rank_above o
+    ranks (Some b) t w = omega (arith, w.to)
+    ranks None t w = absurd t
 
 -- The best offer ranks as high as each of them.
-module _ (rank : Offer → ℕ) where
-  nearer-up : (a b : Offer) → (rank a ≤ rank (cond (nearer rank b a) b a)) × (rank b ≤ rank (cond (nearer rank b a) b a))
+module _ (rank : Option Bound → ℕ) where
+  nearer-up : (a b : Option Bound) → (rank a ≤ rank (cond (nearer rank b a) b a)) × (rank b ≤ rank (cond (nearer rank b a) b a))
   nearer-up a b = go (ltb (rank a) (rank b)) (eqb (rank a) (rank b)) (ltb (offered_version a) (offered_version b)) refl refl
     where
       go : (t u v : Bool) → ltb (rank a) (rank b) ≡ t → eqb (rank a) (rank b) ≡ u
@@ -125,7 +125,7 @@ module _ (rank : Offer → ℕ) where
       go false true false p q = omega (arith, ltb-false (rank a) (rank b) p)
       go false false v p q = omega (arith, ltb-false (rank a) (rank b) p)
 
-  highest : (a : Offer) (l : List Offer) → Each (λ o. rank o ≤ rank (best (nearer rank) Nothing (a ∷ l))) (a ∷ l)
+  highest : (a : Option Bound) (l : List (Option Bound)) → Each (λ o. rank o ≤ rank (best (nearer rank) None (a ∷ l))) (a ∷ l)
   unfolding best best_from
   highest a [] = (omega arith, tt)
   highest a (b ∷ l) =
@@ -139,8 +139,8 @@ module _ {x : ℕ} (F : Facing x) where
   abbrev pub best_side : List Member → Side
   best_side l = best higher no_side (map F.side l)
 
-  abbrev pub best_offer : List Member → Offer
-  best_offer l = best (nearer F.rank) Nothing (map (F.offer (best_side l)) l)
+  abbrev pub best_offer : List Member → Option Bound
+  best_offer l = best (nearer F.rank) None (map (F.offer (best_side l)) l)
 
   -- the member whose side is best
   abbrev winner : Member → List Member → Member
@@ -160,7 +160,7 @@ module _ {x : ℕ} (F : Facing x) where
       let P = OfferWithin F.least F.limit in
       let b = best_side (m ∷ l) in
       let k : b.end ≤ high = rw (winner-side m l) (F.fits (winner m l) (winner-is Sound m l h)) in
-      best-each P (nearer F.rank) Nothing (map (F.offer b) (m ∷ l)) tt (each_mapped Sound P (F.offer b) (F.within b k) (m ∷ l) h)
+      best-each P (nearer F.rank) None (map (F.offer b) (m ∷ l)) tt (each_mapped Sound P (F.offer b) (F.within b k) (m ∷ l) h)
 
   -- the winner offers the end that it gave, so there is an offer
   pub offer-there : (l : List Member) → 1 ≤ length l → Each Sound l → 1 ≤ F.rank (best_offer l)
@@ -191,14 +191,14 @@ module _ {x : ℕ} (F : Facing x) where
       ∙ ap (λ (t : Side). map (F.offer t) l) side
 
   pub found-offer : (s : Suite) (set : ℕ) → sound_suite s ≡ true
-      → OfferWithin F.least F.limit (best (nearer F.rank) Nothing (picked F.its_offer (rounds s set x)))
+      → OfferWithin F.least F.limit (best (nearer F.rank) None (picked F.its_offer (rounds s set x)))
   found-offer s set h =
       let l = tiles s in
       rw (offers-are s set) (offer-within (chosen l set) (each_chosen Sound l set (all-each sound_member l (suite_parts s h).sound-members)))
 
-is_there : (rank : Offer → ℕ) → rank Nothing ≡ 0 → (a c : ℕ) (o : Offer) → 1 ≤ rank o → OfferWithin a c o → Within a c (bound_or o)
-is_there rank e a c (Is b) h w = w
-is_there rank e a c Nothing h w = absurd (omega arith)
+is_there : (rank : Option Bound → ℕ) → rank None ≡ 0 → (a c : ℕ) (o : Option Bound) → 1 ≤ rank o → OfferWithin a c o → Within a c (bound_or o)
+is_there rank e a c (Some b) h w = w
+is_there rank e a c None h w = absurd (omega arith)
 
 -- a set with a vote names a member
 named : (s : Suite) (set : ℕ) → length (tiles s) ≡ length (ballots s) → exists (ballots s) set ≡ true → 1 ≤ votes_of (ballots s) set
@@ -217,13 +217,13 @@ named s set e h k =
 -- In a sound suite there is always an offer: a read set finds a predecessor below x and a successor above it.
 module _ (s : Suite) (each : length (tiles s) ≡ length (ballots s)) (sound : sound_suite s ≡ true) (set x : ℕ) (name : x ≤ largest_name)
     (reads : exists (ballots s) set ≡ true) (votes : s.read ≤ votes_of (ballots s) set) where
-  found : (F : Facing x) → Within F.least F.limit (bound_or (best (nearer F.rank) Nothing (picked F.its_offer (rounds s set x))))
+  found : (F : Facing x) → Within F.least F.limit (bound_or (best (nearer F.rank) None (picked F.its_offer (rounds s set x))))
   found F =
       let l = chosen (tiles s) set in
       let p = suite_parts s sound in
       let q = quorum_parts s.read s.write (total (ballots s)) p.quorum-holds in
       let n : 1 ≤ length l = named s set each reads (omega (arith, q.read_some)) in
-      let o = best (nearer F.rank) Nothing (picked F.its_offer (rounds s set x)) in
+      let o = best (nearer F.rank) None (picked F.its_offer (rounds s set x)) in
       is_there F.rank F.ranks-none F.least F.limit o
       (rw (offers-are F s set) (offer-there F l n (each_chosen Sound (tiles s) set (all-each sound_member (tiles s) p.sound-members))))
       (found-offer F s set sound)

@@ -1,19 +1,12 @@
 -- What a call comes to, in the paper's numbers: a refusal's number alone, or the values answered.
-use Rattle.std.specs.Prelude.{List, [], ◌∷◌, ℕ}
+use Rattle.std.specs.Prelude.{List, [], ◌∷◌, ℕ, Result, Ok, Err}
 use Rattle.member.specs.declared.Reading.{Reading}
 use Rattle.member.specs.declared.Reading.TheVariants.{Entry, Gap}
 use Rattle.suite.specs.declared.Refusal.{Refusal}
 use Rattle.suite.specs.declared.Refusal.TheVariants.{Unsound, Members, Vote, Quorum, Name, Value, NoMember, ReadVotes, WriteVotes, Present, Absent, Version, Full, NotUnderstood, Short, Edition, Field, Padding, Buffer}
 use Rattle.suite.specs.declared.Looked.{Looked}
-use Rattle.suite.specs.declared.Looked.TheVariants as looked
 use Rattle.suite.specs.declared.Near.{Near}
-use Rattle.suite.specs.declared.Near.TheVariants as near
-use Rattle.suite.specs.declared.Change.{Change}
-use Rattle.suite.specs.declared.Change.TheVariants as change
-use Rattle.suite.specs.declared.Creation.{Creation}
-use Rattle.suite.specs.declared.Creation.TheVariants as creation
-use Rattle.suite.specs.declared.Judged.{Judged}
-use Rattle.suite.specs.declared.Judged.TheVariants as judged
+use Rattle.suite.specs.declared.Done.{Done}
 
 pub data Outcome : Type 0 where
   answered : List ℕ → Outcome
@@ -46,25 +39,21 @@ abbrev pub reading_values : Reading → ℕ → List ℕ
 reading_values (Entry v x) q = 1 ∷ v ∷ x ∷ q ∷ []
 reading_values (Gap v) q = 0 ∷ v ∷ 0 ∷ q ∷ []
 
-abbrev pub looked_of : Looked → Outcome
-looked_of (looked.Is r q) = answered (reading_values r q)
-looked_of (looked.No r) = refused (number_of r)
+abbrev pub looked_of : Result Looked Refusal → Outcome
+looked_of (Ok l) = answered (reading_values l.reading l.requests)
+looked_of (Err r) = refused (number_of r)
 
 -- Neighbours: predecessor + 1 (LOW 0), successor + 1 (HIGH 1,048,577), requests.
-abbrev pub near_of : Near → Outcome
-near_of (near.Is p s q) = answered (p ∷ s ∷ q ∷ [])
-near_of (near.No r) = refused (number_of r)
+abbrev pub near_of : Result Near Refusal → Outcome
+near_of (Ok n) = answered (n.below ∷ n.above ∷ n.requests ∷ [])
+near_of (Err r) = refused (number_of r)
 
 -- Insert, update and remove: version, requests.
-abbrev pub change_of : Change → Outcome
-change_of (change.Done v q) = answered (v ∷ q ∷ [])
-change_of (change.No r) = refused (number_of r)
-
-abbrev pub creation_of : Creation → Outcome
-creation_of creation.Done = answered []
-creation_of (creation.No r) = refused (number_of r)
+abbrev pub change_of : Result Done Refusal → Outcome
+change_of (Ok d) = answered (d.version ∷ d.requests ∷ [])
+change_of (Err r) = refused (number_of r)
 
 -- 0 where no refusal applies
-abbrev pub judged_of : Judged → ℕ
-judged_of judged.Fine = 0
-judged_of (judged.No r) = number_of r
+abbrev pub judged_of : Result Unit Refusal → ℕ
+judged_of (Ok u) = 0
+judged_of (Err r) = number_of r

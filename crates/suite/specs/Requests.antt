@@ -8,8 +8,8 @@ use Rattle.suite.specs.SetLaws.{exists_lt, length-chosen, chosen-map}
 use Rattle.suite.specs.Suite.{tiles, ballots}
 use Rattle.suite.specs.Calls.{Call, lookup, insert, update, remove, neighbours, write_set, asked, asked_of, rounds, answers}
 use Rattle.suite.specs.declared.Suite.{Suite}
-use Rattle.suite.specs.declared.Question.{Question}
-use Rattle.suite.specs.declared.Question.TheVariants as question
+use Rattle.suite.specs.Question.{Question}
+use Rattle.suite.specs.Question as question
 
 abbrev pub read_set : Call → ℕ
 read_set (lookup rs x) = rs

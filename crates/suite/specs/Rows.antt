@@ -1,12 +1,12 @@
 -- The table of a round, as the code has it: a row of eight numbers for each member.
+use Rattle.member.specs.declared.Bound.{Bound}
+use Rattle.std.specs.Prelude.{Option, Some, None}
 use Rattle.std.specs.Prelude.{List, [], ◌∷◌, ◌++◌, Bool, true, false, cond, ◌&&◌, ◌||◌, not, ℕ, ◌+◌, ◌-◌, ◌/◌, ◌%◌, length, get_or, replicate, leb, ltb, eqb}
 use Rattle.member.specs.Limits.{high}
 use Rattle.member.specs.declared.Member.{Member}
 use Rattle.member.specs.declared.Reading.{Reading}
 use Rattle.member.specs.declared.Reading.TheVariants.{Entry, Gap}
 use Rattle.member.specs.declared.Around.{Around}
-use Rattle.member.specs.declared.Offer.{Offer}
-use Rattle.member.specs.declared.Offer.TheVariants.{Is, Nothing}
 use Rattle.suite.specs.Calls.{Answer, reads, sees, offers, fits, Marked, rank_above, bound_or, newest, gap_below_in, gap_above_in, predecessor, successor}
 use Rattle.suite.specs.declared.rounds.Survey.{Survey}
 
@@ -33,11 +33,11 @@ around_row a =
     ∷ []
 
 -- rank_below of an end up to HIGH, as each that a member offers is; past HIGH it is 0, since one more may not fit 32 bits
-abbrev pub rank_within : Offer → ℕ
-rank_within (Is b) = cond (leb b.end high) (b.end + 1) 0
-rank_within Nothing = 0
+abbrev pub rank_within : Option Bound → ℕ
+rank_within (Some b) = cond (leb b.end high) (b.end + 1) 0
+rank_within None = 0
 
-unfoldable pub offers_row : Offer → Offer → List ℕ
+unfoldable pub offers_row : Option Bound → Option Bound → List ℕ
 offers_row o p =
     rank_within o
     ∷ (bound_or o).end

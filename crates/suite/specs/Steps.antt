@@ -8,10 +8,10 @@ use Rattle.suite.specs.Outcome.{answered, refused}
 use Rattle.suite.specs.Calls.{asked_of, all_fit, effect_of, Result}
 use Rattle.suite.specs.declared.Suite.{Suite}
 use Rattle.suite.specs.declared.rounds.Survey.{Survey}
-use Rattle.suite.specs.declared.Question.{Question}
-use Rattle.suite.specs.declared.Question.TheVariants as question
-use Rattle.suite.specs.declared.Effect.{Effect}
-use Rattle.suite.specs.declared.Effect.TheVariants as effect
+use Rattle.suite.specs.Question.{Question}
+use Rattle.suite.specs.Question as question
+use Rattle.suite.specs.Effect.{Effect}
+use Rattle.suite.specs.Effect as effect
 
 -- the members of the write set get the version g, unless it is too large or does not fit
 unfoldable pub granted_of : Suite → ℕ → ℕ → ℕ → Question → Effect → Result

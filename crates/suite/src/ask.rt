@@ -1,81 +1,107 @@
-// Asking members, and writing to them: one loop for all questions, one for all changes.
-ghost use Rattle.std.specs.Prelude.{◌≡◌};
-ghost use Rattle.suite.specs.Sets.{changed};
+// Asking members, and changing them: one loop for every question, one for whether a change fits, one for every change.
+ghost use Rattle.std.specs.Prelude.{◌≡◌, ◌++◌, ◌≤◌, List, ℕ, Bool, take, drop};
+ghost use Rattle.member.specs.declared.Member.{Member};
+ghost use Rattle.suite.specs.Sets.{chosen, changed, all};
 ghost use Rattle.suite.specs.Suite.{tiles, with_tiles};
-ghost use Rattle.suite.specs.Calls.{answer_to, effect_of};
+ghost use Rattle.suite.specs.Calls.{answer_to};
 ghost use Rattle.suite.specs.Rows.{row_of, table_of};
+ghost use Rattle.suite.specs.Question as question;
+ghost use Rattle.suite.specs.Asking.{AnswersAs, ChangesAs};
 
-use crate::table::{around_row, fit_row, offers_row, reading_row};
-use crate::{Effect, Question, Suite};
-use member::Member;
+use crate::Suite;
+use crate::table::{around_row, offers_row};
+use member::{Member, Side};
 
-// One member's answer to a question, as a row of the table.
-fn answer(m: Member, question: Question) -> [u32; 8]
-    ensures { result ≡ row_of (answer_to question m) }
+// A change made in those of the first `n` members that the set names.
+fn change_members<F: Fn(&mut Member)>(members: &mut [Member; 8], n: usize, set: u32, change: F)
+    requires count { n ≤ 8 }
+    requires callable { F.IsAlwaysCallable change }
+    ensures { (effect : Member → Member)
+        → ChangesAs F.Fn change effect
+        → members.new ≡ changed effect (take n members.old) set ++ drop n members.old }
 {
-    match question {
-        Question::Reading { name } => reading_row(m.reading(name)),
-        Question::Around { name } => around_row(m.around(name)),
-        Question::Offers { name, below, above } => offers_row(
-            m.offer_below(name, below.end, below.version),
-            m.offer_above(name, above.end, above.version),
-        ),
-        Question::FitsWrite { name } => fit_row(m.fits_write(name)),
-        Question::FitsCoalesce { below, above } => fit_row(m.fits_coalesce(below, above)),
+    let mut left = set;
+    for member in &mut members[..n] {
+        if left % 2 == 1 {
+            change(member);
+        }
+        left = left / 2;
     }
 }
 
-// One member with a change made.
-fn changed_member(m: Member, effect: Effect) -> Member
-    ensures { result ≡ effect_of effect m }
+// A member's answer of round two, as a row.
+fn offers(member: &Member, name: u32, below: Side, above: Side) -> [u32; 8]
+    ensures { result ≡ row_of (answer_to (question.Offers name below above) member.now) }
 {
-    match effect {
-        Effect::Write {
-            name,
-            version,
-            value,
-        } => m.write(name, version, value),
-        Effect::Coalesce { below, above, gap } => m.coalesce(below, above, gap),
-    }
+    let both = member.offers(name, below, above);
+    offers_row(both.below, both.above)
 }
 
 impl Suite {
-    // The answers of the members that the set names.
-    pub(crate) fn ask(self, set: u32, question: Question) -> [[u32; 8]; 8]
-        ensures { result ≡ table_of (λ m. row_of (answer_to question m)) (tiles self) set }
+    // What `answer` says of each member that the set names, in a table with a row for each; the rows of the others are zeros.
+    // `answer` says of a member what `row` says.
+    fn ask<F: Fn(&Member) -> [u32; 8]>(&self, set: u32, answer: F) -> [[u32; 8]; 8]
+        requires { F.IsAlwaysCallable answer }
+        ensures { (row : Member → List ℕ) → AnswersAs F.Fn answer row → result ≡ table_of row (tiles self.now) set }
     {
         let n = self.size();
-        let none = [0u32; 8];
-        let mut table = [none; 8];
+        let mut table = [[0; 8]; 8];
         let mut left = set;
-        let mut i = 0;
-        while i < n {
+        for (i, member) in self.members[..n].iter().enumerate() {
             if left % 2 == 1 {
-                let m = self.members[i];
-                table[i] = answer(m, question);
+                table[i] = answer(member);
             }
             left = left / 2;
-            i += 1;
         }
         table
     }
 
-    // The suite with a change made in the members that the set names.
-    pub(crate) fn change(mut self, set: u32, effect: Effect) -> Suite
-        ensures { result ≡ with_tiles self (changed (effect_of effect) (tiles self) set) }
+    // The answers of round one.
+    pub(crate) fn ask_around(&self, set: u32, name: u32) -> [[u32; 8]; 8]
+        ensures { result ≡ table_of (λ m. row_of (answer_to (question.Around name) m)) (tiles self.now) set }
+    {
+        let answer = |member: &Member| -> [u32; 8]
+            ensures { result ≡ row_of (answer_to (question.Around name) member.now) }
+        { around_row(member.around(name)) };
+        self.ask(set, answer)
+    }
+
+    // The answers of round two.
+    pub(crate) fn ask_offers(&self, set: u32, name: u32, below: Side, above: Side) -> [[u32; 8]; 8]
+        ensures { result ≡ table_of (λ m. row_of (answer_to (question.Offers name below above) m)) (tiles self.now) set }
+    {
+        let answer = |member: &Member| -> [u32; 8]
+            ensures { result ≡ row_of (answer_to (question.Offers name below above) member.now) }
+        { offers(member, name, below, above) };
+        self.ask(set, answer)
+    }
+
+    // Whether a change fits each member that the set names. `fits` says of a member what `room` says.
+    pub(crate) fn all_fit<F: Fn(&Member) -> bool>(&self, set: u32, fits: F) -> bool
+        requires { F.IsAlwaysCallable fits }
+        ensures { (room : Member → Bool) → AnswersAs F.Fn fits room → result ≡ all room (chosen (tiles self.now) set) }
     {
         let n = self.size();
         let mut left = set;
-        let mut i = 0;
-        while i < n {
+        for member in &self.members[..n] {
             if left % 2 == 1 {
-                let m = self.members[i];
-                let c = changed_member(m, effect);
-                self.members[i] = c;
+                if !fits(member) {
+                    return false;
+                }
             }
             left = left / 2;
-            i += 1;
         }
-        self
+        true
+    }
+
+    // A change made in the members that the set names. `change` does to a member what `effect` does.
+    pub(crate) fn change<F: Fn(&mut Member)>(&mut self, set: u32, change: F)
+        requires { F.IsAlwaysCallable change }
+        ensures { (effect : Member → Member)
+            → ChangesAs F.Fn change effect
+            → self.new ≡ with_tiles self.old (changed effect (tiles self.old) set) }
+    {
+        let n = self.size();
+        change_members(&mut self.members, n, set, change);
     }
 }

@@ -6,41 +6,29 @@ ghost use Rattle.suite.specs.Sets.{exists, votes_of, all, total};
 ghost use Rattle.suite.specs.Outcome.{judged_of};
 ghost use Rattle.suite.specs.Calls.{judged, judged_votes};
 
-use crate::{Frame, Judged, Refusal, Suite};
+use crate::{Frame, Refusal, Suite};
 use member::{Name, Value};
-
-pub(crate) fn wide(x: u32) -> u64
-    ensures { (result ≡ x) × (result < 2 ^ 32) }
-{
-    x as u64
-}
 
 impl Frame {
     // How many members there are; a count past the last place counts as all places.
     pub fn size(self) -> usize
         ensures { (result ≡ length (ballots_in self)) × (result ≤ 8) }
     {
-        if self.count < Suite::LARGEST {
-            self.count
-        } else {
-            Suite::LARGEST
-        }
+        self.count.min(Suite::LARGEST)
     }
 
     // The set of all members.
     pub fn everyone(self) -> u32
         ensures { result ≡ 2 ^ length (ballots_in self) - 1 }
     {
-        let n = self.size();
-        (1u32 << n) - 1
+        (1u32 << self.size()) - 1
     }
 
     // Does a set name only members that exist?
     fn names_members(self, set: u32) -> bool
         ensures { result ≡ exists (ballots_in self) set }
     {
-        let n = self.size();
-        set >> n == 0
+        set >> self.size() == 0
     }
 
     // The votes of the members that a set names.
@@ -50,46 +38,51 @@ impl Frame {
         let n = self.size();
         let mut left = set;
         let mut sum: u64 = 0;
-        let mut i = 0;
-        while i < n {
+        for vote in &self.votes[..n] {
             if left % 2 == 1 {
-                sum += wide(self.votes[i]);
+                sum += u64::from(*vote);
             }
             left = left / 2;
-            i += 1;
         }
         sum
     }
 
     // The first of refusals 5 to 9 that applies. A call without a write set has the empty one, for which it needs no votes.
-    pub fn judge(self, name: u32, value: u32, read: u32, write: u32, needed: u32) -> Judged
+    #[tactic(auto, unfolding(crate::specs::Calls::judged))]
+    pub fn judge(
+        self,
+        name: u32,
+        value: u32,
+        read: u32,
+        write: u32,
+        needed: u32,
+    ) -> Result<(), Refusal>
         ensures { judged_of result ≡ judged (ballots_in self) self.read needed name value read write }
     {
         if Name::LARGEST < name {
-            return Judged::No(Refusal::Name);
+            return Err(Refusal::Name);
         }
         if Value::LARGEST < value {
-            return Judged::No(Refusal::Value);
+            return Err(Refusal::Value);
         }
-        if self.names_members(read) {
-            if self.names_members(write) {
-                return self.judge_votes(read, write, needed);
-            }
+        if !self.names_members(read) || !self.names_members(write) {
+            return Err(Refusal::NoMember);
         }
-        Judged::No(Refusal::NoMember)
+        self.judge_votes(read, write, needed)
     }
 
     // Refusals 8 and 9, for sets of members that exist.
-    fn judge_votes(self, read: u32, write: u32, needed: u32) -> Judged
+    #[tactic(auto, unfolding(crate::specs::Calls::judged_votes))]
+    fn judge_votes(self, read: u32, write: u32, needed: u32) -> Result<(), Refusal>
         ensures { judged_of result ≡ judged_votes (ballots_in self) self.read needed read write }
     {
-        if self.votes_of(read) < wide(self.read) {
-            return Judged::No(Refusal::ReadVotes);
+        if self.votes_of(read) < u64::from(self.read) {
+            return Err(Refusal::ReadVotes);
         }
-        if self.votes_of(write) < wide(needed) {
-            return Judged::No(Refusal::WriteVotes);
+        if self.votes_of(write) < u64::from(needed) {
+            return Err(Refusal::WriteVotes);
         }
-        Judged::Fine
+        Ok(())
     }
 
     // 1 ≤ R ≤ V, 1 ≤ W ≤ V, R + W > V
@@ -97,8 +90,8 @@ impl Frame {
         ensures { result ≡ quorum self.read self.write (total (ballots_in self)) }
     {
         let all = self.votes_of(self.everyone());
-        let r = wide(self.read);
-        let w = wide(self.write);
+        let r = u64::from(self.read);
+        let w = u64::from(self.write);
         if r == 0 {
             return false;
         }
@@ -119,30 +112,20 @@ impl Frame {
         ensures { result ≡ all small_vote (ballots_in self) && all no_vote (drop self.count self.votes) }
     {
         let n = self.size();
-        let mut i = 0;
-        while i < Suite::LARGEST {
-            let most = if i < n { Suite::LARGEST_VOTE } else { 0 };
-            if most < self.votes[i] {
-                return false;
-            }
-            i += 1;
-        }
-        true
+        self.votes[..n]
+            .iter()
+            .all(|vote| *vote <= Suite::LARGEST_VOTE)
+            && self.votes[n..].iter().all(|vote| *vote == 0)
     }
 
     // Is all of a suite sound but for its members?
+    #[tactic(auto, unfolding(crate::specs::Suite::sound_frame))]
     pub fn is_sound(self) -> bool
         ensures { result ≡ sound_frame self }
     {
-        if self.count == 0 {
-            return false;
-        }
-        if Suite::LARGEST < self.count {
-            return false;
-        }
-        if self.votes_are_sound() {
-            return self.quorum_holds();
-        }
-        false
+        0 < self.count
+            && self.count <= Suite::LARGEST
+            && self.votes_are_sound()
+            && self.quorum_holds()
     }
 }

@@ -1,53 +1,55 @@
 // The five calls on any suite: refusal 1 for one that isn't sound, and otherwise the call.
+#![tactic(auto, unfolding(crate::specs::Calls::call_of))]
+
 ghost use Rattle.std.specs.Prelude.{◌≡◌};
 ghost use Rattle.suite.specs.Outcome.{looked_of, near_of};
 ghost use Rattle.suite.specs.Calls.{call_of, result_of, lookup, insert, update, remove, neighbours};
 
-use crate::{Changed, Looked, Near, Refusal, Suite};
+use crate::{Done, Looked, Near, Refusal, Suite};
 
 impl Suite {
-    pub fn lookup(self, set: u32, name: u32) -> Looked
-        ensures { looked_of result ≡ (call_of self (lookup set name)).outcome }
+    pub fn lookup(&self, set: u32, name: u32) -> Result<Looked, Refusal>
+        ensures { looked_of result ≡ (call_of self.now (lookup set name)).outcome }
     {
-        if self.is_sound() {
-            return self.lookup_unchecked(set, name);
+        if !self.is_sound() {
+            return Err(Refusal::Unsound);
         }
-        Looked::No(Refusal::Unsound)
+        self.lookup_unchecked(set, name)
     }
 
-    pub fn neighbours(self, set: u32, name: u32) -> Near
-        ensures { near_of result ≡ (call_of self (neighbours set name)).outcome }
+    pub fn neighbours(&self, set: u32, name: u32) -> Result<Near, Refusal>
+        ensures { near_of result ≡ (call_of self.now (neighbours set name)).outcome }
     {
-        if self.is_sound() {
-            return self.neighbours_unchecked(set, name);
+        if !self.is_sound() {
+            return Err(Refusal::Unsound);
         }
-        Near::No(Refusal::Unsound)
+        self.neighbours_unchecked(set, name)
     }
 
-    pub fn insert(self, read: u32, write: u32, name: u32, value: u32) -> Changed
-        ensures { result_of result ≡ call_of self (insert read write name value) }
+    pub fn insert(&mut self, read: u32, write: u32, name: u32, value: u32) -> Result<Done, Refusal>
+        ensures { result_of result self.new ≡ call_of self.old (insert read write name value) }
     {
-        if self.is_sound() {
-            return self.insert_unchecked(read, write, name, value);
+        if !self.is_sound() {
+            return Err(Refusal::Unsound);
         }
-        self.refused(Refusal::Unsound)
+        self.insert_unchecked(read, write, name, value)
     }
 
-    pub fn update(self, read: u32, write: u32, name: u32, value: u32) -> Changed
-        ensures { result_of result ≡ call_of self (update read write name value) }
+    pub fn update(&mut self, read: u32, write: u32, name: u32, value: u32) -> Result<Done, Refusal>
+        ensures { result_of result self.new ≡ call_of self.old (update read write name value) }
     {
-        if self.is_sound() {
-            return self.update_unchecked(read, write, name, value);
+        if !self.is_sound() {
+            return Err(Refusal::Unsound);
         }
-        self.refused(Refusal::Unsound)
+        self.update_unchecked(read, write, name, value)
     }
 
-    pub fn remove(self, read: u32, write: u32, name: u32) -> Changed
-        ensures { result_of result ≡ call_of self (remove read write name) }
+    pub fn remove(&mut self, read: u32, write: u32, name: u32) -> Result<Done, Refusal>
+        ensures { result_of result self.new ≡ call_of self.old (remove read write name) }
     {
-        if self.is_sound() {
-            return self.remove_unchecked(read, write, name);
+        if !self.is_sound() {
+            return Err(Refusal::Unsound);
         }
-        self.refused(Refusal::Unsound)
+        self.remove_unchecked(read, write, name)
     }
 }

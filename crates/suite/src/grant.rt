@@ -1,94 +1,67 @@
 // The two changes, once the name's presence is settled: refusals 12 and 13, then the members of the write set are written.
-ghost use Rattle.std.specs.Prelude.{◌≡◌, ◌<◌, ◌^◌, max, length};
+ghost use Rattle.std.specs.Prelude.{◌≡◌, ◌<◌, ◌^◌, length};
 ghost use Rattle.suite.specs.Suite.{tiles};
 ghost use Rattle.suite.specs.Calls.{result_of};
 ghost use Rattle.suite.specs.Steps.{put_of, join_of};
 
 use crate::rounds::Survey;
-use crate::table::all_set;
-use crate::{Change, Changed, Effect, Question, Refusal, Suite};
+use crate::{Done, Refusal, Suite};
 use member::Version;
 
-fn greater(a: u32, b: u32) -> u32
-    ensures { result ≡ max a b }
-{
-    if a < b { b } else { a }
-}
-
 impl Suite {
-    // The suite as it was, beside the refusal.
-    pub(crate) fn refused(self, refusal: Refusal) -> Changed
-        ensures { result ≡ record { answer = Change.No refusal; suite = self } }
-    {
-        Changed {
-            answer: Change::No(refusal),
-            suite: self,
-        }
-    }
-
     // The name written with the version after the one given.
+    #[tactic(auto, unfolding(crate::specs::Steps::granted_of))]
     pub(crate) fn put(
-        mut self,
+        &mut self,
         read: u32,
         write: u32,
         name: u32,
         version: u32,
         value: u32,
-    ) -> Changed
-        requires { write < 2 ^ length (tiles self) }
-        ensures { result_of result ≡ put_of self read write name version value }
+    ) -> Result<Done, Refusal>
+        requires { write < 2 ^ length (tiles self.old) }
+        ensures { result_of result self.new ≡ put_of self.old read write name version value }
     {
         if Version::LARGEST <= version {
-            return self.refused(Refusal::Version);
+            return Err(Refusal::Version);
         }
-        let fits = self.ask(write, Question::FitsWrite { name });
-        if all_set(fits, write) {
-            let next = version + 1;
-            self = self.change(
-                write,
-                Effect::Write {
-                    name,
-                    version: next,
-                    value,
-                },
-            );
-            return Changed {
-                answer: Change::Done {
-                    version: next,
-                    requests: u32::count_ones(read) + u32::count_ones(write),
-                },
-                suite: self,
-            };
+        if !self.all_fit(write, |member| member.fits_write(name)) {
+            return Err(Refusal::Full);
         }
-        self.refused(Refusal::Full)
+        let next = version + 1;
+        self.change(write, |member| member.put(name, next, value));
+        Ok(Done {
+            version: next,
+            requests: u32::count_ones(read) + u32::count_ones(write),
+        })
     }
 
     // The gap between the neighbours found made one, with a version above all that it replaces.
-    pub(crate) fn join(mut self, read: u32, write: u32, version: u32, found: Survey) -> Changed
-        requires { write < 2 ^ length (tiles self) }
-        ensures { result_of result ≡ join_of self read write version found }
+    #[tactic(auto, unfolding(crate::specs::Steps::granted_of))]
+    pub(crate) fn join(
+        &mut self,
+        read: u32,
+        write: u32,
+        version: u32,
+        found: Survey,
+    ) -> Result<Done, Refusal>
+        requires { write < 2 ^ length (tiles self.old) }
+        ensures { result_of result self.new ≡ join_of self.old read write version found }
     {
         let below = found.below;
         let above = found.above;
-        let newest = greater(version, greater(found.lower, found.upper));
+        let newest = version.max(found.lower.max(found.upper));
         if Version::LARGEST <= newest {
-            return self.refused(Refusal::Version);
+            return Err(Refusal::Version);
         }
-        let question = Question::FitsCoalesce {
-            below: below.end,
-            above: above.end,
-        };
-        if all_set(self.ask(write, question), write) {
-            let gap = newest + 1;
-            self = self.change(write, Effect::Coalesce { below, above, gap });
-            return Changed {
-                answer: Change::Done {
-                    version: gap,
-                    requests: 2 * u32::count_ones(read) + u32::count_ones(write),
-                },
-                suite: self,
-            };
+        if !self.all_fit(write, |member| member.fits_coalesce(below.end, above.end)) {
+            return Err(Refusal::Full);
         }
-        self.refused(Refusal::Full)
+        let gap = newest + 1;
+        self.change(write, |member| member.join(below, above, gap));
+        Ok(Done {
+            version: gap,
+            requests: 2 * u32::count_ones(read) + u32::count_ones(write),
+        })
     }
 }

@@ -17,11 +17,11 @@ mod unchecked;
 ghost use Rattle.std.specs.Prelude.{◌≡◌};
 ghost use Rattle.suite.specs.Outcome.{number_of};
 
-use member::{Bound, Member, Reading, Side};
+use member::{Member, Reading};
 pub use rounds::Survey;
 
 // Why a call is refused; the paper's number of each is `Refusal::number`.
-#[derive(Clone, Copy)]
+#[derive(Clone, Copy, PartialEq, Eq, Debug)]
 pub enum Refusal {
     Unsound,
     Members,
@@ -72,81 +72,26 @@ impl Refusal {
     }
 }
 
-// A lookup's answer carries either a reading or a refusal.
+// What a lookup finds, and how many member answers it took.
 #[derive(Clone, Copy)]
-pub enum Looked {
-    Is { reading: Reading, requests: u32 },
-    No(Refusal),
+pub struct Looked {
+    pub reading: Reading,
+    pub requests: u32,
 }
 
 // A neighbour query's answer: the ends of the predecessor and of the successor.
 #[derive(Clone, Copy)]
-pub enum Near {
-    Is {
-        below: u32,
-        above: u32,
-        requests: u32,
-    },
-    No(Refusal),
+pub struct Near {
+    pub below: u32,
+    pub above: u32,
+    pub requests: u32,
 }
 
 // What insert, update and remove answer.
 #[derive(Clone, Copy)]
-pub enum Change {
-    Done { version: u32, requests: u32 },
-    No(Refusal),
-}
-
-// The suite stands beside the answer: on a refusal it is the one that went in.
-#[derive(Clone, Copy)]
-pub struct Changed {
-    pub answer: Change,
-    pub suite: Suite,
-}
-
-// What creation answers; on a refusal the suite beside it has no members.
-#[derive(Clone, Copy)]
-pub enum Creation {
-    Done,
-    No(Refusal),
-}
-
-#[derive(Clone, Copy)]
-pub struct Created {
-    pub answer: Creation,
-    pub suite: Suite,
-}
-
-// What the judging of a call's own numbers comes to.
-#[derive(Clone, Copy)]
-pub enum Judged {
-    Fine,
-    No(Refusal),
-}
-
-// What a member is asked.
-#[derive(Clone, Copy)]
-pub enum Question {
-    Reading { name: u32 },
-    Around { name: u32 },
-    Offers { name: u32, below: Side, above: Side },
-    FitsWrite { name: u32 },
-    FitsCoalesce { below: u32, above: u32 },
-}
-
-// What is written to a member.
-#[derive(Clone, Copy)]
-pub enum Effect {
-    Write {
-        name: u32,
-        version: u32,
-        value: u32,
-    },
-    Coalesce {
-        below: Bound,
-        above: Bound,
-        gap: u32,
-    },
+pub struct Done {
+    pub version: u32,
+    pub requests: u32,
 }
 
 // The members in the lowest `count` places with their votes; R votes make a read set, W votes a write set.

@@ -8,51 +8,32 @@ use crate::Suite;
 use member::Member;
 
 // An unused place holds zero, which is a fresh member.
-fn is_fresh(m: Member) -> bool
-    ensures { result ≡ is_fresh m }
+fn is_fresh(m: &Member) -> bool
+    ensures { result ≡ is_fresh m.now }
 {
-    if m.is_sound() {
-        if m.used() == 0 {
-            return m.lowest_gap() == 0;
-        }
-    }
-    false
+    m.is_sound() && m.used() == 0 && m.lowest_gap() == 0
 }
 
 impl Suite {
     // 1 ≤ R ≤ V, 1 ≤ W ≤ V, R + W > V
-    pub(crate) fn quorum_holds(self) -> bool
-        ensures { result ≡ quorum self.read self.write (total (ballots self)) }
+    pub(crate) fn quorum_holds(&self) -> bool
+        ensures { result ≡ quorum self.now.read self.now.write (total (ballots self.now)) }
     {
-        let frame = self.frame();
-        frame.quorum_holds()
+        self.frame().quorum_holds()
     }
 
     // Is every member sound, and every unused one fresh?
-    fn members_are_sound(self) -> bool
-        ensures { result ≡ all sound_member (tiles self) && all is_fresh (drop self.count self.members) }
+    fn members_are_sound(&self) -> bool
+        ensures { result ≡ all sound_member (tiles self.now) && all is_fresh (drop self.now.count self.now.members) }
     {
         let n = self.size();
-        let mut i = 0;
-        while i < Suite::LARGEST {
-            let m = self.members[i];
-            let fine = if i < n { m.is_sound() } else { is_fresh(m) };
-            if fine {
-                i += 1;
-            } else {
-                return false;
-            }
-        }
-        true
+        self.members[..n].iter().all(|m| m.is_sound()) && self.members[n..].iter().all(is_fresh)
     }
 
-    pub fn is_sound(self) -> bool
-        ensures { result ≡ sound_suite self }
+    #[tactic(auto, unfolding(crate::specs::Suite::sound_suite, crate::specs::Suite::sound_frame))]
+    pub fn is_sound(&self) -> bool
+        ensures { result ≡ sound_suite self.now }
     {
-        let frame = self.frame();
-        if frame.is_sound() {
-            return self.members_are_sound();
-        }
-        false
+        self.frame().is_sound() && self.members_are_sound()
     }
 }

@@ -11,9 +11,9 @@ ghost use Rattle.suite.specs.Sets.{chosen, all};
 ghost use Rattle.suite.specs.Calls.{bound_or, rank_above};
 ghost use Rattle.suite.specs.Rows.{no_row, fit_row, reading_row, around_row, offers_row, rank_within, row_reading, beats_at, is_set};
 
-use member::{Around, Bound, Name, Offer, Reading};
+use member::{Around, Bound, Name, Reading};
 
-pub(crate) fn reading_row(reading: Reading) -> [u32; 8]
+fn reading_row(reading: Reading) -> [u32; 8]
     ensures { result ≡ reading_row reading }
 {
     match reading {
@@ -55,53 +55,36 @@ pub fn around_row(around: Around) -> [u32; 8]
     ]
 }
 
-// Whether a written call fits a member.
-pub(crate) fn fit_row(fits: bool) -> [u32; 8]
-    ensures { result ≡ fit_row fits }
-{
-    if fits {
-        [1, 0, 0, 0, 0, 0, 0, 0]
-    } else {
-        [0, 0, 0, 0, 0, 0, 0, 0]
-    }
-}
-
 // What is offered, or zeros with which nothing is ranked.
-fn offered(offer: Offer) -> Bound
+fn offered(offer: Option<Bound>) -> Bound
     ensures { result ≡ bound_or offer }
 {
-    match offer {
-        Offer::Is(b) => b,
-        Offer::Nothing => Bound {
-            end: 0,
-            version: 0,
-            value: 0,
-        },
-    }
+    offer.unwrap_or(Bound {
+        end: 0,
+        version: 0,
+        value: 0,
+    })
 }
 
-fn rank_below(offer: Offer) -> u32
+fn rank_below(offer: Option<Bound>) -> u32
     ensures { result ≡ rank_within offer }
 {
     match offer {
-        Offer::Is(b) => { if b.end <= Name::HIGH { b.end + 1 } else { 0 } }
-        Offer::Nothing => 0,
+        Some(b) if b.end <= Name::HIGH => b.end + 1,
+        _ => 0,
     }
 }
 
-fn rank_above(offer: Offer) -> u32
+fn rank_above(offer: Option<Bound>) -> u32
     ensures { result ≡ rank_above offer }
 {
     match offer {
-        Offer::Is(b) => {
-            let past = Name::HIGH + 1;
-            if b.end < past { past - b.end } else { 0 }
-        }
-        Offer::Nothing => 0,
+        Some(b) => (Name::HIGH + 1).saturating_sub(b.end),
+        None => 0,
     }
 }
 
-pub fn offers_row(below: Offer, above: Offer) -> [u32; 8]
+pub fn offers_row(below: Option<Bound>, above: Option<Bound>) -> [u32; 8]
     ensures { result ≡ offers_row below above }
 {
     let b = offered(below);
@@ -119,61 +102,32 @@ pub fn offers_row(below: Offer, above: Offer) -> [u32; 8]
 }
 
 // Is b better than a: greater in the column, or equal there and greater in the column `then`?
-fn beats(b: [u32; 8], a: [u32; 8], column: usize, then: usize) -> bool
+fn beats(b: &[u32; 8], a: &[u32; 8], column: usize, then: usize) -> bool
     requires { (column < 8) × (then < 8) }
-    ensures { result ≡ beats_at column then b a }
+    ensures { result ≡ beats_at column then b.now a.now }
 {
-    if a[column] < b[column] {
-        return true;
-    }
-    if a[column] == b[column] {
-        a[then] < b[then]
-    } else {
-        false
-    }
+    a[column] < b[column] || (a[column] == b[column] && a[then] < b[then])
 }
 
-// The best of the rows that the set names, the lowest-numbered member's where none is better.
-pub(crate) fn best_row(table: [[u32; 8]; 8], set: u32, column: usize, then: usize) -> [u32; 8]
+// The best of the rows that the set names, the lowest-numbered member's where none is better, and zeros where it names none.
+// It is inlined: the columns are known at each call.
+#[inline(always)]
+pub(crate) fn best_row(table: &[[u32; 8]; 8], set: u32, column: usize, then: usize) -> [u32; 8]
     requires { (column < 8) × (then < 8) }
-    ensures { result ≡ best (beats_at column then) no_row (chosen table set) }
+    ensures { result ≡ best (beats_at column then) no_row (chosen table.now set) }
 {
-    let mut got = [0u32; 8];
-    let mut any = false;
+    let mut best: Option<&[u32; 8]> = None;
     let mut left = set;
-    let mut i = 0;
-    while i < 8 {
+    for row in table {
+        if left == 0 {
+            break;
+        }
         if left % 2 == 1 {
-            let row = table[i];
-            if any {
-                if beats(row, got, column, then) {
-                    got = row;
-                }
-            } else {
-                got = row;
-                any = true;
+            if best.is_none_or(|held| beats(row, held, column, then)) {
+                best = Some(row);
             }
         }
         left = left / 2;
-        i += 1;
     }
-    got
-}
-
-// Does every row that the set names begin with a number that is not 0?
-pub(crate) fn all_set(table: [[u32; 8]; 8], set: u32) -> bool
-    ensures { result ≡ all is_set (chosen table set) }
-{
-    let mut left = set;
-    let mut i = 0;
-    while i < 8 {
-        if left % 2 == 1 {
-            if table[i][0] == 0 {
-                return false;
-            }
-        }
-        left = left / 2;
-        i += 1;
-    }
-    true
+    best.copied().unwrap_or([0; 8])
 }

@@ -1,71 +1,56 @@
 -- The words of the commands, in the order in which the code tries them. Assumes nothing.
-use mathlib.Core.Path.{◌≡◌, refl, sym, ◌∙◌}
-use Prim.Native.Nat.{ℕ, ◌+◌}
-use native.Mathlib.Omega.{arith}
-use mathlib.Core.List.{List, []}
-use mathlib.Core.Bool.{Bool, true, false, cond}
+use mathlib.Core.Path.{◌≡◌}
+use Prim.Native.Nat.{ℕ}
+use mathlib.Core.List.{List}
+use mathlib.Core.Bool.{true, false}
+use Rattle.std.specs.Prelude.{None}
+use Rattle.std.specs.Option.{option_map}
 use Rattle.text.specs.Words.{ascii, same}
-use Rattle.text.specs.Line.{command_of, command_in, reading, changing, removing, creating, not_understood}
-use Rattle.text.specs.Scan.{words_from}
-use Rattle.text.specs.Kinds.{Worded, kind_of, change_then, change_for, command_for}
-use Rattle.text.specs.declared.Command.TheVariants.{Look, Near, Insert, Update}
-use Rattle.text.specs.declared.grammar.Kind.TheVariants as kind
-use Rattle.text.specs.declared.grammar.Change.TheVariants as change
+use Rattle.text.specs.Line.{command_in, ballots_in, reading, changing, removing, creating, suite_asked}
+use Rattle.text.specs.Scan.{change_in}
+use Rattle.text.specs.declared.Command.TheVariants.{Look, Near, Insert, Update, Remove}
 
-module _ (w : List ℕ) where
-  pub is-look : same w (ascii "look") ≡ true → kind_of w ≡ kind.Read false
-  unfolding kind_of
+module _ (w : List ℕ) (ws : List (List ℕ)) where
+  pub is-look : same w (ascii "look") ≡ true → command_in w ws ≡ reading Look ws
+  unfolding command_in
   is-look a = rw a
 
   module _ (a : same w (ascii "look") ≡ false) where
-    pub is-near : same w (ascii "near") ≡ true → kind_of w ≡ kind.Read true
-    unfolding kind_of
+    pub is-near : same w (ascii "near") ≡ true → command_in w ws ≡ reading Near ws
+    unfolding command_in
     is-near b = rw (a, b)
 
-    module _ (b : same w (ascii "near") ≡ false) where
-      pub is-insert : same w (ascii "ins") ≡ true → kind_of w ≡ kind.Change (change.Put false)
-      unfolding kind_of
-      is-insert d = rw (a, b, d)
+    pub is-change : same w (ascii "near") ≡ false → command_in w ws ≡ change_in w ws
+    unfolding command_in change_in
+    is-change b = rw (a, b)
 
-      module _ (d : same w (ascii "ins") ≡ false) where
-        pub is-update : same w (ascii "upd") ≡ true → kind_of w ≡ kind.Change (change.Put true)
-        unfolding kind_of
-        is-update e = rw (a, b, d, e)
+  pub is-insert : same w (ascii "ins") ≡ true → change_in w ws ≡ changing Insert ws
+  unfolding change_in
+  is-insert a = rw a
 
-        module _ (e : same w (ascii "upd") ≡ false) where
-          pub is-remove : same w (ascii "del") ≡ true → kind_of w ≡ kind.Change change.Remove
-          unfolding kind_of
-          is-remove f = rw (a, b, d, e, f)
+  module _ (a : same w (ascii "ins") ≡ false) where
+    pub is-update : same w (ascii "upd") ≡ true → change_in w ws ≡ changing Update ws
+    unfolding change_in
+    is-update b = rw (a, b)
 
-          module _ (f : same w (ascii "del") ≡ false) where
-            pub is-suite : same w (ascii "suite") ≡ true → kind_of w ≡ kind.Suite
-            unfolding kind_of
-            is-suite g = rw (a, b, d, e, f, g)
+    module _ (b : same w (ascii "upd") ≡ false) where
+      pub is-remove : same w (ascii "del") ≡ true → change_in w ws ≡ removing Remove ws
+      unfolding change_in
+      is-remove d = rw (a, b, d)
 
-            pub is-other : same w (ascii "suite") ≡ false → kind_of w ≡ kind.Other
-            unfolding kind_of
-            is-other g = rw (a, b, d, e, f, g)
+      module _ (d : same w (ascii "del") ≡ false) where
+        pub is-suite : same w (ascii "suite") ≡ true → change_in w ws ≡ option_map suite_asked (creating ws)
+        unfolding change_in
+        is-suite e = rw (a, b, d, e)
 
--- the kind decides what is taken
-pub by_kind : (w : List ℕ) (ws : List (List ℕ)) → command_in w ws ≡ command_for (kind_of w) ws
-unfolding command_in kind_of command_for change_for change_then changing removing
-by_kind w ws = six (same w (ascii "look")) (same w (ascii "near")) (same w (ascii "ins")) (same w (ascii "upd")) (same w (ascii "del")) (same w (ascii "suite"))
-  where
-    six : (a b c d e f : Bool)
-        → cond a (reading Look ws) (cond b (reading Near ws) (cond c (changing Insert ws) (cond d (changing Update ws) (cond e (removing ws) (cond f (creating ws) not_understood)))))
-        ≡ command_for (cond a (kind.Read false) (cond b (kind.Read true) (cond c (kind.Change (change.Put false)) (cond d (kind.Change (change.Put true)) (cond e (kind.Change change.Remove) (cond f kind.Suite kind.Other)))))) ws
-    six true b c d e f = refl
-    six false true c d e f = refl
-    six false false true d e f = refl
-    six false false false true e f = refl
-    six false false false false true f = refl
-    six false false false false false true = refl
-    six false false false false false false = refl
+        pub is-other : same w (ascii "suite") ≡ false → change_in w ws ≡ None
+        unfolding change_in
+        is-other e = rw (a, b, d, e)
 
--- no command's word is empty
-no_word_at_all : (ws : List (List ℕ)) → command_in [] ws ≡ not_understood
-unfolding command_in same ascii
-no_word_at_all ws = refl
+  pub suite-word : same w (ascii "suite") ≡ true → ballots_in w ws ≡ creating ws
+  unfolding ballots_in
+  suite-word e = rw e
 
-pub not_worded : (line : List ℕ) → command_of line ≡ not_understood → Worded line 0
-not_worded line e = record { within = omega arith; gives = e ∙ sym (no_word_at_all (words_from line (0 + 1))) }
+  pub other_word : same w (ascii "suite") ≡ false → ballots_in w ws ≡ None
+  unfolding ballots_in
+  other_word e = rw e

@@ -4,18 +4,19 @@ use Prim.Native.Nat.{ℕ}
 use mathlib.Core.Path.{◌≡◌, sym, ◌∙◌}
 use mathlib.Core.List.{List}
 use lib.ListN.{length}
-use Rattle.text.specs.Line.{command_of, suite_of}
+use Rattle.std.specs.Prelude.{Option}
+use Rattle.text.specs.Line.{command_of, ballots_of}
 use Rattle.text.specs.Answer.{text_of, place_after, printed}
 use Rattle.text.specs.declared.Command.{Command}
-use Rattle.text.specs.declared.Parsed.{Parsed}
+use Rattle.text.specs.declared.Creation.{Creation}
 use Rattle.text.specs.declared.Reply.{Reply}
 
--- `parse`: the command
-pub parse_determined : (line : List ℕ) (r s : Command) → r ≡ (command_of line).command → s ≡ (command_of line).command → r ≡ s
+-- `parse`: the command, or that there is none
+pub parse_determined : (line : List ℕ) (r s : Option Command) → r ≡ command_of line → s ≡ command_of line → r ≡ s
 parse_determined line r s p q = p ∙ sym q
 
--- `ballots`: the command of a `suite` line with its votes
-pub ballots_determined : (line : List ℕ) (r s : Parsed) → r ≡ suite_of (command_of line) → s ≡ suite_of (command_of line) → r ≡ s
+-- `ballots`: what a `suite` line asks for, or that the line is none
+pub ballots_determined : (line : List ℕ) (r s : Option Creation) → r ≡ ballots_of line → s ≡ ballots_of line → r ≡ s
 ballots_determined line r s p q = p ∙ sym q
 
 -- `print`: the place, and the lent bytes, all of them

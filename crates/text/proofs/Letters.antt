@@ -1,24 +1,28 @@
 -- The command word: the letters that the line begins with. Assumes nothing.
 use mathlib.Core.Path.{◌≡◌, refl, sym, ◌∙◌, ap}
 use Prim.Native.Nat.{ℕ, suc, ◌+◌, ◌≤◌, ◌<◌}
-use native.Mathlib.Nat.{not-suc-le-zero, le_of_suc-le-suc}
+use native.Mathlib.Nat.{not-suc-le-zero}
+use native.Mathlib.Numerals.{one-add}
 use native.Mathlib.Omega.{arith}
 use mathlib.Core.List.{List, [], ◌∷◌}
 use mathlib.Core.Bool.{Bool, true, false, cond, ◌&&◌}
-use lib.ListN.{length, get_or, take, drop, drop_of_length-le}
+use lib.ListN.{length, get_or, take}
 use lib.Seq.{length-take-le}
 use lib.Dec.{leb, eqb}
+use Rattle.std.specs.Prelude.{Option, None}
+use Rattle.std.specs.List.{prefix_len}
 use borrow.Author.Tests.{le-leb, lt-leb, ne_eqb, eqb-true}
 use Rattle.text.specs.Words.{ascii, words, same}
-use Rattle.text.specs.Line.{command_in, command_with, command_of, not_understood, longest_line, reading, changing, removing, creating, with_word}
-use Rattle.text.specs.Scan.{is_letter, letters_of, first, words_from}
-use Rattle.text.proofs.Places.{byte_at, others, others_are, words_are}
-use Rattle.text.specs.declared.Parsed.{Parsed}
+use Rattle.text.specs.Line.{command_in, ballots_in, given_with, given_of, command_of, ballots_of, longest_line, reading, changing, removing, creating, with_word}
+use Rattle.text.specs.Scan.{is_letter, first, words_from, Worded, Wordless}
+use Rattle.text.proofs.Places.{others, others_are, words_are}
+use Rattle.text.specs.declared.Command.{Command}
+use Rattle.text.specs.declared.Creation.{Creation}
 use Rattle.text.proofs.Numbers.{first_more, first_space, and_false}
 
-is_letter_lem : (b : ℕ) → 97 ≤ b → b < 123 → is_letter b ≡ true
+pub letter_within : (b : ℕ) → 97 ≤ b → b < 123 → is_letter b ≡ true
 unfolding is_letter
-is_letter_lem b h k = rw (le-leb 97 b h, le-leb b 122 (omega arith))
+letter_within b h k = rw (le-leb 97 b h, le-leb b 122 (omega arith))
 
 pub no_letter_below : (b : ℕ) → b < 97 → is_letter b ≡ false
 unfolding is_letter
@@ -31,30 +35,19 @@ no_letter_above b h = rw (lt-leb b 122 h, and_false (leb 97 b))
 no_space : (b : ℕ) → is_letter b ≡ true → b ≡ 32 → ⊥
 no_space b e q = let z : true ≡ false = sym e ∙ no_letter_below b (omega arith) in absurd (let n : ◌≡◌ {A = ℕ} 0 1 = cc in omega arith)
 
--- counting them
-pub letters_more : (l : List ℕ) (i : ℕ) → i < length l → 97 ≤ get_or l i 0 → get_or l i 0 < 123
-    → letters_of (drop i l) ≡ suc (letters_of (drop (i + 1) l))
-unfolding letters_of
-letters_more l i h a b = rw (byte_at l i h, is_letter_lem (get_or l i 0) a b)
-
-pub letters_stop : (l : List ℕ) (i : ℕ) → i < length l → is_letter (get_or l i 0) ≡ false → letters_of (drop i l) ≡ 0
-unfolding letters_of
-letters_stop l i h e = rw (byte_at l i h, e)
-
-pub letters_end : (l : List ℕ) (i : ℕ) → length l ≤ i → letters_of (drop i l) ≡ 0
-unfolding letters_of
-letters_end l i h = rw (drop_of_length-le l h)
+-- how many letters a line begins with
+abbrev letters_of : List ℕ → ℕ
+letters_of = prefix_len is_letter
 
 -- letters and then a space: they are the first word
 word_is : (l : List ℕ) → letters_of l < length l → get_or l (letters_of l) 0 ≡ 32 → first l ≡ take (letters_of l) l
-unfolding letters_of
 word_is [] h e = absurd (not-suc-le-zero h)
 word_is (b ∷ l) h e = go (is_letter b) refl (word_is l) h e
   where
     go : (t : Bool) → is_letter b ≡ t → (letters_of l < length l → get_or l (letters_of l) 0 ≡ 32 → first l ≡ take (letters_of l) l)
-        → cond t (suc (letters_of l)) 0 < suc (length l) → get_or (b ∷ l) (cond t (suc (letters_of l)) 0) 0 ≡ 32
-        → first (b ∷ l) ≡ take (cond t (suc (letters_of l)) 0) (b ∷ l)
-    go true q ih k p = first_more b l (no_space b q) ∙ ap (λ (w : List ℕ). b ∷ w) (ih (le_of_suc-le-suc k) p)
+        → cond t (1 + letters_of l) 0 < suc (length l) → get_or (b ∷ l) (cond t (1 + letters_of l) 0) 0 ≡ 32
+        → first (b ∷ l) ≡ take (cond t (1 + letters_of l) 0) (b ∷ l)
+    go true q ih k p = rw one-add (first_more b l (no_space b q) ∙ ap (λ (w : List ℕ). b ∷ w) (ih (omega arith) (rw one-add at p)))
     go false q ih k p = rw p (first_space l)
 
 pub word_split : (l : List ℕ) → letters_of l < length l → get_or l (letters_of l) 0 ≡ 32
@@ -66,13 +59,13 @@ word_split l h e =
 
 -- nothing but letters: no word follows
 letters_alone : (l : List ℕ) → length l ≤ letters_of l → others l ≡ []
-unfolding letters_of others
+unfolding others
 letters_alone [] h = refl
 letters_alone (b ∷ l) h = go (is_letter b) refl (letters_alone l) h
   where
-    go : (t : Bool) → is_letter b ≡ t → (length l ≤ letters_of l → others l ≡ []) → suc (length l) ≤ cond t (suc (letters_of l)) 0
+    go : (t : Bool) → is_letter b ≡ t → (length l ≤ letters_of l → others l ≡ []) → suc (length l) ≤ cond t (1 + letters_of l) 0
         → cond (eqb b 32) (words l) (others l) ≡ []
-    go true q ih k = rw (ne_eqb b 32 (no_space b q)) (ih (le_of_suc-le-suc k))
+    go true q ih k = rw (ne_eqb b 32 (no_space b q)) (ih (omega arith))
     go false q ih k = absurd (not-suc-le-zero k)
 
 -- a first word of letters only
@@ -82,14 +75,14 @@ lettered (b ∷ w) = is_letter b && lettered w
 
 -- letters and then another byte: the first word has more than letters
 unlettered : (l : List ℕ) → letters_of l < length l → (get_or l (letters_of l) 0 ≡ 32 → ⊥) → lettered (first l) ≡ false
-unfolding letters_of lettered
+unfolding lettered
 unlettered [] h e = absurd (not-suc-le-zero h)
 unlettered (b ∷ l) h e = go (is_letter b) refl (unlettered l) h e
   where
     go : (t : Bool) → is_letter b ≡ t → (letters_of l < length l → (get_or l (letters_of l) 0 ≡ 32 → ⊥) → lettered (first l) ≡ false)
-        → cond t (suc (letters_of l)) 0 < suc (length l) → (get_or (b ∷ l) (cond t (suc (letters_of l)) 0) 0 ≡ 32 → ⊥)
+        → cond t (1 + letters_of l) 0 < suc (length l) → (get_or (b ∷ l) (cond t (1 + letters_of l) 0) 0 ≡ 32 → ⊥)
         → lettered (first (b ∷ l)) ≡ false
-    go true q ih k p = rw (first_more b l (no_space b q), q) (ih (le_of_suc-le-suc k) p)
+    go true q ih k p = rw (first_more b l (no_space b q), q) (ih (omega arith) (rw one-add at p))
     go false q ih k p = rw (first_more b l p, q)
 
 -- so it is none of the commands' words
@@ -109,7 +102,7 @@ differs (b ∷ w) (c ∷ v) h k = go (eqb b c) refl (differs w v)
         ih r.0 r.1
     go false q ih = refl
 
-no_command : (w : List ℕ) (ws : List (List ℕ)) → lettered w ≡ false → command_in w ws ≡ not_understood
+no_command : (w : List ℕ) (ws : List (List ℕ)) → lettered w ≡ false → command_in w ws ≡ None
 unfolding command_in lettered is_letter ascii
 no_command w ws h =
     rw (
@@ -121,13 +114,17 @@ no_command w ws h =
       differs w (ascii "suite") h refl,
     )
 
+no_ballots : (w : List ℕ) (ws : List (List ℕ)) → lettered w ≡ false → ballots_in w ws ≡ None
+unfolding ballots_in lettered is_letter ascii
+no_ballots w ws h = rw (differs w (ascii "suite") h refl)
+
 -- every command has arguments
-bare : (w : List ℕ) → command_in w [] ≡ not_understood
+bare_command : (w : List ℕ) → command_in w [] ≡ None
 unfolding command_in reading changing removing creating with_word
-bare w = six (same w (ascii "look")) (same w (ascii "near")) (same w (ascii "ins")) (same w (ascii "upd")) (same w (ascii "del")) (same w (ascii "suite"))
+bare_command w = six (same w (ascii "look")) (same w (ascii "near")) (same w (ascii "ins")) (same w (ascii "upd")) (same w (ascii "del")) (same w (ascii "suite"))
   where
-    n : Parsed
-    n = not_understood
+    n : Option Command
+    n = None
 
     six : (a b c d e f : Bool) → cond a n (cond b n (cond c n (cond d n (cond e n (cond f n n))))) ≡ n
     six true b c d e f = refl
@@ -138,21 +135,66 @@ bare w = six (same w (ascii "look")) (same w (ascii "near")) (same w (ascii "ins
     six false false false false false true = refl
     six false false false false false false = refl
 
--- the four ends of `parse`
-pub too_long : (l : List ℕ) → longest_line < length l → command_of l ≡ not_understood
-unfolding command_of
-too_long l h = rw (lt-leb (length l) longest_line h)
+bare_ballots : (w : List ℕ) → ballots_in w [] ≡ None
+unfolding ballots_in creating with_word
+bare_ballots w = two (same w (ascii "suite"))
+  where
+    n : Option Creation
+    n = None
 
-module _ (l : List ℕ) (short : length l ≤ longest_line) where
-  pub no_word : length l ≤ letters_of l → command_of l ≡ not_understood
-  unfolding command_of command_with
-  no_word h = rw (le-leb (length l) longest_line short, words_are l, letters_alone l h) (bare (first l))
+    two : (a : Bool) → cond a n n ≡ n
+    two true = refl
+    two false = refl
 
-  pub odd-word : letters_of l < length l → (get_or l (letters_of l) 0 ≡ 32 → ⊥) → command_of l ≡ not_understood
-  unfolding command_of command_with
-  odd-word h e = rw (le-leb (length l) longest_line short, words_are l) (no_command (first l) (others l) (unlettered l h e))
+-- what a line gives, by the ways in which its word ends
+module _ {R : Type 0} (give : List ℕ → List (List ℕ) → Option R) (l : List ℕ) where
+  given-long : longest_line < length l → given_of give l ≡ None
+  unfolding given_of
+  given-long h = rw (lt-leb (length l) longest_line h)
 
-  pub some_word : letters_of l < length l → get_or l (letters_of l) 0 ≡ 32
-      → command_of l ≡ command_in (take (letters_of l) l) (words_from l (letters_of l + 1))
-  unfolding command_of command_with
-  some_word h e = rw (le-leb (length l) longest_line short, word_split l h e)
+  module _ (short : length l ≤ longest_line) where
+    given-bare : ((w : List ℕ) → give w [] ≡ None) → length l ≤ letters_of l → given_of give l ≡ None
+    unfolding given_of given_with
+    given-bare b h = rw (le-leb (length l) longest_line short, words_are l, letters_alone l h) (b (first l))
+
+    given-odd : ((w : List ℕ) (ws : List (List ℕ)) → lettered w ≡ false → give w ws ≡ None)
+        → letters_of l < length l → (get_or l (letters_of l) 0 ≡ 32 → ⊥) → given_of give l ≡ None
+    unfolding given_of given_with
+    given-odd n h e = rw (le-leb (length l) longest_line short, words_are l) (n (first l) (others l) (unlettered l h e))
+
+    given-word : letters_of l < length l → get_or l (letters_of l) 0 ≡ 32
+        → given_of give l ≡ give (take (letters_of l) l) (words_from l (letters_of l + 1))
+    unfolding given_of given_with
+    given-word h e = rw (le-leb (length l) longest_line short, word_split l h e)
+
+-- the four ends of `word_end`
+pub too_long : (l : List ℕ) → longest_line < length l → Wordless l
+unfolding command_of ballots_of
+too_long l h = record { command = given-long command_in l h; ballots = given-long ballots_in l h }
+
+module _ (l : List ℕ) (short : length l ≤ longest_line) {n : ℕ} (letters : n ≡ letters_of l) where
+  pub no_word : length l ≤ n → Wordless l
+  unfolding command_of ballots_of
+  no_word h =
+      let k = rw letters at h in
+      record { command = given-bare command_in l short bare_command k; ballots = given-bare ballots_in l short bare_ballots k }
+
+  -- a byte b behind them
+  module _ (within : n < length l) {b : ℕ} (byte : b ≡ get_or l n 0) where
+    pub odd-word : (b ≡ 32 → ⊥) → Wordless l
+    unfolding command_of ballots_of
+    odd-word h =
+        let k = rw letters at within in
+        let e = rw (byte, letters) at h in
+        record { command = given-odd command_in l short no_command k e; ballots = given-odd ballots_in l short no_ballots k e }
+
+    pub some_word : b ≡ 32 → Worded l n
+    unfolding command_of ballots_of
+    some_word h =
+        let k = rw letters at within in
+        let e = rw (byte, letters) at h in
+        record {
+          within = omega arith;
+          command = rw letters (given-word command_in l short k e);
+          ballots = rw letters (given-word ballots_in l short k e);
+        }

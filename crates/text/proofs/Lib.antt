@@ -6,7 +6,6 @@ pub mod Sets
 pub mod Arguments
 pub mod Votes
 pub mod Commands
-pub mod Suites
 pub mod Writing
 pub mod Sizes
 pub mod Printing

@@ -3,38 +3,51 @@
 use mathlib.Core.Path.{◌≡◌, refl}
 use mathlib.Core.List.{List, [], ◌∷◌, map}
 use Prim.Native.String.{String}
-use Rattle.text.specs.Words.{ascii, onto, words, same, is_digit, decimals, unpadded, value_from, largest, numeral, only, argument}
-use Rattle.text.specs.Line.{padded, alone, not_understood, given, with_word, with_nothing, joined, numbers, reading, changing, removing, created, voting, creating, command_in, command_with, longest_line, command_of}
+use Rattle.text.specs.Words.{ascii, onto, words, same, is_digit, decimals, unpadded, value_from, numeral, only, argument}
+use Rattle.text.specs.Line.{padded, given, with_word, with_nothing, joined, numbers, reading, changing, removing, created, voting, creating, suite_asked, command_in, ballots_in, given_with, longest_line, given_of, command_of, ballots_of}
 use Rattle.text.specs.Answer.{digit, decimal_on, decimal, high_end, end_of, saying, text_of}
 use Rattle.text.specs.declared.Members.TheVariants.{Everyone, Only}
 use Rattle.text.specs.declared.Command.TheVariants as command
-use Rattle.text.specs.declared.Parsed.{Parsed}
+use Rattle.text.specs.declared.Command.{Command}
+use Rattle.text.specs.declared.Creation.{Creation}
+use Rattle.std.specs.Prelude.{None, Some}
 use Rattle.text.specs.declared.Reply.{Reply}
 use Rattle.text.specs.declared.Reply.TheVariants.{SuiteOk, Ok, Removed, At, Absent, Near, Refused}
 
-abbrev lines : List (String × Parsed)
+abbrev lines : List (String × Command)
 lines =
+    ("suite 2 2 1 1 1", command.Suite 2 2)
+    ∷ ("ins 3 3 20 7", command.Insert (Only 3) (Only 3) 20 7)
+    ∷ ("look 6 20", command.Look (Only 6) 20)
+    ∷ ("ins 6 6 10 3", command.Insert (Only 6) (Only 6) 10 3)
+    ∷ ("ins 5 5 30 9", command.Insert (Only 5) (Only 5) 30 9)
+    ∷ ("del 5 6 20", command.Remove (Only 5) (Only 6) 20)
+    ∷ ("look 3 20", command.Look (Only 3) 20)
+    ∷ ("near 3 15", command.Near (Only 3) 15)
+    ∷ ("look 3 10", command.Look (Only 3) 10)
+    ∷ ("ins 3 3 20 8", command.Insert (Only 3) (Only 3) 20 8)
+    ∷ ("look 5 20", command.Look (Only 5) 20)
+    ∷ ("del 5 1 20", command.Remove (Only 5) (Only 1) 20)
+    ∷ ("upd - 7 0 65535", command.Update Everyone (Only 7) 0 65535)
+    ∷ ("near - 4294967295", command.Near Everyone 4294967295)
+    ∷ ("suite 1 1", command.Suite 1 1)
+    ∷ ("suite 2 2 1 2 3 4 5 6 7 8 9", command.Suite 2 2)
+    ∷ []
+
+pub lines_give : map (λ (l : String × Command). command_of (ascii l.0)) lines ≡ map (λ (l : String × Command). Some l.1) lines
+unfolding ascii onto words same is_digit decimals unpadded value_from numeral only argument padded given with_word with_nothing joined numbers reading changing removing created voting creating suite_asked command_in ballots_in given_with longest_line given_of command_of ballots_of
+lines_give = refl
+
+abbrev suites : List (String × Creation)
+suites =
     ("suite 2 2 1 1 1", created 2 2 (1 ∷ 1 ∷ 1 ∷ []))
-    ∷ ("ins 3 3 20 7", alone (command.Insert (Only 3) (Only 3) 20 7))
-    ∷ ("look 6 20", alone (command.Look (Only 6) 20))
-    ∷ ("ins 6 6 10 3", alone (command.Insert (Only 6) (Only 6) 10 3))
-    ∷ ("ins 5 5 30 9", alone (command.Insert (Only 5) (Only 5) 30 9))
-    ∷ ("del 5 6 20", alone (command.Remove (Only 5) (Only 6) 20))
-    ∷ ("look 3 20", alone (command.Look (Only 3) 20))
-    ∷ ("near 3 15", alone (command.Near (Only 3) 15))
-    ∷ ("look 3 10", alone (command.Look (Only 3) 10))
-    ∷ ("ins 3 3 20 8", alone (command.Insert (Only 3) (Only 3) 20 8))
-    ∷ ("look 5 20", alone (command.Look (Only 5) 20))
-    ∷ ("del 5 1 20", alone (command.Remove (Only 5) (Only 1) 20))
-    ∷ ("upd - 7 0 65535", alone (command.Update Everyone (Only 7) 0 65535))
-    ∷ ("near - 4294967295", alone (command.Near Everyone 4294967295))
     ∷ ("suite 1 1", created 1 1 [])
     ∷ ("suite 2 2 1 2 3 4 5 6 7 8 9", created 2 2 (1 ∷ 2 ∷ 3 ∷ 4 ∷ 5 ∷ 6 ∷ 7 ∷ 8 ∷ 9 ∷ []))
     ∷ []
 
-pub lines_give : map (λ (l : String × Parsed). command_of (ascii l.0)) lines ≡ map (λ (l : String × Parsed). l.1) lines
-unfolding ascii onto words same is_digit decimals unpadded value_from largest numeral only argument padded alone not_understood given with_word with_nothing joined numbers reading changing removing created voting creating command_in command_with longest_line command_of
-lines_give = refl
+pub suites_give : map (λ (l : String × Creation). ballots_of (ascii l.0)) suites ≡ map (λ (l : String × Creation). Some l.1) suites
+unfolding ascii onto words same is_digit decimals unpadded value_from numeral only argument padded given with_word with_nothing joined numbers reading changing removing created voting creating suite_asked command_in ballots_in given_with longest_line given_of command_of ballots_of
+suites_give = refl
 
 abbrev others : List String
 others =
@@ -62,9 +75,13 @@ others =
     ∷ "quit 1 2"
     ∷ []
 
-pub others_give : map (λ (l : String). command_of (ascii l)) others ≡ map (λ (l : String). not_understood) others
-unfolding ascii onto words same is_digit decimals unpadded value_from largest numeral only argument padded alone not_understood given with_word with_nothing joined numbers reading changing removing created voting creating command_in command_with longest_line command_of
+pub others_give : map (λ (l : String). command_of (ascii l)) others ≡ map (λ (l : String). None) others
+unfolding ascii onto words same is_digit decimals unpadded value_from numeral only argument padded given with_word with_nothing joined numbers reading changing removing created voting creating suite_asked command_in ballots_in given_with longest_line given_of command_of ballots_of
 others_give = refl
+
+pub others-ask : map (λ (l : String). ballots_of (ascii l)) others ≡ map (λ (l : String). None) others
+unfolding ascii onto words same is_digit decimals unpadded value_from numeral only argument padded given with_word with_nothing joined numbers reading changing removing created voting creating suite_asked command_in ballots_in given_with longest_line given_of command_of ballots_of
+others-ask = refl
 
 abbrev answers : List (Reply × String)
 answers =

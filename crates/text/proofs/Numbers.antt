@@ -5,15 +5,18 @@ use native.Mathlib.Nat.{zero-add, add-zero}
 use native.Mathlib.Omega.{arith}
 use mathlib.Core.List.{List, [], ◌∷◌}
 use mathlib.Core.Bool.{Bool, true, false, cond, ◌&&◌}
-use mathlib.Core.Option.{none, some}
+use Rattle.std.specs.Prelude.{Option, None, Some}
 use lib.ListN.{length, get_or, drop, drop_of_length-le}
 use lib.Dec.{leb, eqb}
 use borrow.Author.Tests.{le-leb, lt-leb, eq-eqb, ne_eqb, eqb-true, eqb-false}
 use Rattle.text.specs.Words.{is_digit, decimals, value_from, unpadded, numeral, largest}
-use Rattle.text.specs.Scan.{first, empty, number_on, found_then, as_number}
+use Rattle.text.specs.Scan.{first, empty, number_on, found_then}
 use Rattle.text.proofs.Places.{byte_at}
-use Rattle.text.specs.declared.scan.Number.{Number}
-use Rattle.text.specs.declared.scan.Number.TheVariants.{Is, Not}
+use Rattle.text.specs.declared.scan.Found.{Found}
+
+-- a number that ends at a place
+abbrev pub number : ℕ → ℕ → Option (Found ℕ)
+number n end = Some (record { it = n; end = end })
 
 -- digits only make a number larger
 value_grows : (v : ℕ) (w : List ℕ) → v ≤ value_from v w
@@ -46,17 +49,17 @@ pub first_more : (b : ℕ) (l : List ℕ) → (b ≡ 32 → ⊥) → first (b �
 unfolding first
 first_more b l h = rw (ne_eqb b 32 h)
 
-on_large : (v at : ℕ) (l : List ℕ) → largest < v → number_on v at l ≡ Not
+on_large : (v at : ℕ) (l : List ℕ) → largest < v → number_on v at l ≡ None
 unfolding number_on
 on_large v at l h =
     let g = value_grows v (first l) in
     rw (lt-leb (value_from v (first l)) largest (omega arith), and_false (decimals (first l)))
 
-on_end : (v at : ℕ) → v ≤ largest → number_on v at [] ≡ Is v at
+on_end : (v at : ℕ) → v ≤ largest → number_on v at [] ≡ number v at
 unfolding number_on first decimals value_from
 on_end v at h = rw (le-leb v largest h, add-zero at)
 
-on_space : (v at b : ℕ) (l : List ℕ) → b ≡ 32 → v ≤ largest → number_on v at (b ∷ l) ≡ Is v at
+on_space : (v at b : ℕ) (l : List ℕ) → b ≡ 32 → v ≤ largest → number_on v at (b ∷ l) ≡ number v at
 unfolding number_on first decimals value_from
 on_space v at b l e h = rw (eq-eqb b 32 e, le-leb v largest h, add-zero at)
 
@@ -68,7 +71,7 @@ on_digit v at b l h k = rw (first_more b l (λ e. omega arith), is_digit_lem b h
     past : (a n : ℕ) → a + suc n ≡ a + 1 + n
     past a n = omega arith
 
-on_other : (v at b : ℕ) (l : List ℕ) → (b ≡ 32 → ⊥) → is_digit b ≡ false → number_on v at (b ∷ l) ≡ Not
+on_other : (v at b : ℕ) (l : List ℕ) → (b ≡ 32 → ⊥) → is_digit b ≡ false → number_on v at (b ∷ l) ≡ None
 unfolding number_on decimals
 on_other v at b l h e = rw (first_more b l h, e)
 
@@ -79,33 +82,33 @@ module _ (line : List ℕ) (v i : ℕ) (h : i < length line) where
   digit_at a b = ap (number_on v i) (byte_at line i h) ∙ on_digit v i (get_or line i 0) (drop (i + 1) line) a b
 
   pub large-at : 48 ≤ get_or line i 0 → get_or line i 0 < 58 → {d : ℕ} → d ≡ get_or line i 0 - 48 → largest < v * 10 + d
-      → number_on v i (drop i line) ≡ Not
+      → number_on v i (drop i line) ≡ None
   large-at a b e k = digit_at a b ∙ on_large (v * 10 + (get_or line i 0 - 48)) (i + 1) (drop (i + 1) line) (rw e at k)
 
-  pub space-at : get_or line i 0 ≡ 32 → v ≤ largest → number_on v i (drop i line) ≡ Is v i
+  pub space-at : get_or line i 0 ≡ 32 → v ≤ largest → number_on v i (drop i line) ≡ number v i
   space-at e k = ap (number_on v i) (byte_at line i h) ∙ on_space v i (get_or line i 0) (drop (i + 1) line) e k
 
-  pub other_at : (get_or line i 0 ≡ 32 → ⊥) → is_digit (get_or line i 0) ≡ false → number_on v i (drop i line) ≡ Not
+  pub other_at : (get_or line i 0 ≡ 32 → ⊥) → is_digit (get_or line i 0) ≡ false → number_on v i (drop i line) ≡ None
   other_at e k = ap (number_on v i) (byte_at line i h) ∙ on_other v i (get_or line i 0) (drop (i + 1) line) e k
 
-pub end_at_lem : (line : List ℕ) (v i : ℕ) → length line ≤ i → v ≤ largest → number_on v i (drop i line) ≡ Is v i
+pub end_at_lem : (line : List ℕ) (v i : ℕ) → length line ≤ i → v ≤ largest → number_on v i (drop i line) ≡ number v i
 end_at_lem line v i h k = ap (number_on v i) (drop_of_length-le line h) ∙ on_end v i k
 
 -- the number of the first word of l, at a place
-unfoldable pub number_here : ℕ → List ℕ → Number
-number_here at l = as_number (found_then (numeral (first l)) (at + length (first l)))
+unfoldable pub number_here : ℕ → List ℕ → Option (Found ℕ)
+number_here at l = found_then (numeral (first l)) (at + length (first l))
 
-pushed : (t : Bool) (n p : ℕ) → as_number (found_then (cond t (some n) none) p) ≡ cond t (Is n p) Not
-unfolding as_number found_then
+pushed : (t : Bool) (n p : ℕ) → found_then (cond t (Some n) None) p ≡ cond t (number n p) None
+unfolding found_then
 pushed true n p = refl
 pushed false n p = refl
 
-numeral-empty : numeral [] ≡ none
+numeral-empty : numeral [] ≡ None
 unfolding numeral unpadded
 numeral-empty = refl
 
-pub here_empty : (at : ℕ) → number_here at [] ≡ Not
-unfolding number_here first as_number found_then
+pub here_empty : (at : ℕ) → number_here at [] ≡ None
+unfolding number_here first found_then
 here_empty at = rw numeral-empty
 
 -- a first digit that is no zero: the others follow
@@ -135,19 +138,19 @@ here_digit at b l h n k =
     past a n = omega arith
 
 -- a zero stands alone
-pub here_zero : (at b : ℕ) (l : List ℕ) → b ≡ 48 → number_here at (b ∷ l) ≡ cond (empty (first l)) (Is 0 (at + 1)) Not
-unfolding number_here numeral unpadded decimals is_digit value_from as_number found_then empty largest
+pub here_zero : (at b : ℕ) (l : List ℕ) → b ≡ 48 → number_here at (b ∷ l) ≡ cond (empty (first l)) (number 0 (at + 1)) None
+unfolding number_here numeral unpadded decimals is_digit value_from found_then empty
 here_zero at b l e = rw (e, first_more 48 l (λ q. omega arith)) (then (first l))
   where
-    then : (w : List ℕ) → as_number (found_then (numeral (48 ∷ w)) (at + length (48 ∷ w))) ≡ cond (empty w) (Is 0 (at + 1)) Not
+    then : (w : List ℕ) → found_then (numeral (48 ∷ w)) (at + length (48 ∷ w)) ≡ cond (empty w) (number 0 (at + 1)) None
     then [] = refl
     then (c ∷ w) = refl
 
 -- any other byte begins no number
-pub here_other : (at b : ℕ) (l : List ℕ) → is_digit b ≡ false → number_here at (b ∷ l) ≡ Not
-unfolding number_here numeral decimals as_number found_then
+pub here_other : (at b : ℕ) (l : List ℕ) → is_digit b ≡ false → number_here at (b ∷ l) ≡ None
+unfolding number_here numeral decimals found_then
 here_other at b l e = go (eqb b 32) refl
   where
-    go : (t : Bool) → eqb b 32 ≡ t → number_here at (b ∷ l) ≡ Not
+    go : (t : Bool) → eqb b 32 ≡ t → number_here at (b ∷ l) ≡ None
     go true q = rw (eqb-true b 32 q, first_space l, numeral-empty)
     go false q = rw (first_more b l (eqb-false b 32 q), pushed, e, and_false (unpadded (b ∷ first l)))

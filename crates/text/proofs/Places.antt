@@ -5,16 +5,16 @@ use native.Mathlib.Nat.{zero-add, suc-add, add_assoc, not-suc-le-zero, le_of_suc
 use native.Mathlib.Omega.{arith}
 use mathlib.Core.List.{List, [], ◌∷◌}
 use mathlib.Core.Bool.{Bool, true, false, cond}
-use mathlib.Core.Option.{Option, none, some}
+use Rattle.std.specs.Prelude.{Option, None, Some}
 use native.Mathlib.Numerals.{add-one}
 use lib.ListN.{length, get_or, drop, length-drop}
 use lib.Seq.{drop-cons}
 use lib.Dec.{leb, eqb, leb-suc-suc}
 use borrow.Author.Tests.{le-leb, lt-leb, leb-true, leb-false}
 use Rattle.text.specs.Words.{words, onto}
-use Rattle.text.specs.Line.{with_word, given, not_understood}
-use Rattle.text.specs.Scan.{words_from, first, it, nothing, found_then, found_in, found_at}
-use Rattle.text.specs.declared.Parsed.{Parsed}
+use Rattle.text.specs.Line.{with_word, given}
+use Rattle.text.specs.Scan.{words_from, first, found_then, found_in, found_at}
+use Rattle.text.specs.declared.scan.Found.{Found}
 
 -- the bytes from a place on begin with the byte there
 pub byte_at : (l : List ℕ) (i : ℕ) → i < length l → drop i l ≡ get_or l i 0 ∷ drop (i + 1) l
@@ -90,7 +90,8 @@ first_within (b ∷ l) = go (eqb b 32) (first_within l)
 pub record Step {A : Type 0} (read : List ℕ → Option A) (line : List ℕ) (at : ℕ) (a : A) (end : ℕ) : Type 0 where
   pub beyond : at ≤ end
   pub within : end ≤ length line
-  pub goes : (f : A → List (List ℕ) → Parsed) → with_word read (words_from line at) f ≡ f a (words_from line (end + 1))
+  pub words : words_from line at ≡ first (drop at line) ∷ words_from line (end + 1)
+  pub reads : read (first (drop at line)) ≡ Some a
 
 module _ {A : Type 0} (read : List ℕ → Option A) (line : List ℕ) (at : ℕ) where
   -- what is found at a place within the line
@@ -99,40 +100,47 @@ module _ {A : Type 0} (read : List ℕ → Option A) (line : List ℕ) (at : ℕ
   unfolding found_at found_in
   found_within h = rw (from_within line at h)
 
-  pub found-past : length line < at → found_at read line at ≡ nothing
+  pub found-past : length line < at → found_at read line at ≡ None
   unfolding found_at found_in
   found-past h = rw (from_past line at h)
 
-  pub stepped : (a : A) (end : ℕ) → found_at read line at ≡ it a end → Step read line at a end
-  unfolding found_then with_word given
-  stepped a end e = place (leb at (length line)) refl
+  pub stepped : (f : Found A) → found_at read line at ≡ Some f → Step read line at f.it f.end
+  unfolding found_then
+  stepped f e = place (leb at (length line)) refl
     where
       word : at ≤ length line → (o : Option A) → read (first (drop at line)) ≡ o
-          → found_then o (at + length (first (drop at line))) ≡ it a end → Step read line at a end
-      word h none p q = absurd (let z : ◌≡◌ {A = ℕ} 0 1 = cc in omega arith)
-      word h (some b) p q =
-          let same : b ≡ a = cc in
-          let then : at + length (first (drop at line)) ≡ end = cc in
+          → found_then o (at + length (first (drop at line))) ≡ Some f → Step read line at f.it f.end
+      word h None p q = absurd (let z : ◌≡◌ {A = ℕ} 0 1 = cc in omega arith)
+      word h (Some b) p q =
+          let same : ◌≡◌ {A = Found A} (record { it = b; end = at + length (first (drop at line)) }) f = cc in
+          let then : at + length (first (drop at line)) ≡ f.end = ap (λ (f : Found A). f.end) same in
           let short : length (first (drop at line)) ≤ length line - at = rw length-drop at (first_within (drop at line)) in
           record {
             beyond = omega arith;
             within = omega arith;
-            goes = λ f. rw (from_within line at h, p, same, next_word line at h, then);
+            words = rw (from_within line at h, next_word line at h, then);
+            reads = p ∙ ap (λ (f : Found A). Some f.it) same;
           }
 
-      place : (t : Bool) → leb at (length line) ≡ t → Step read line at a end
+      place : (t : Bool) → leb at (length line) ≡ t → Step read line at f.it f.end
       place true t = word (leb-true at (length line) t) (read (first (drop at line))) refl (sym (found_within (leb-true at (length line) t)) ∙ e)
       place false t = absurd (let z : ◌≡◌ {A = ℕ} 0 1 = cc (found-past (leb-false at (length line) t)) in omega arith)
 
-  pub stopped : found_at read line at ≡ nothing → (f : A → List (List ℕ) → Parsed) → with_word read (words_from line at) f ≡ not_understood
+module _ {A R : Type 0} (read : List ℕ → Option A) (line : List ℕ) (at : ℕ) where
+  pub goes : {a : A} {end : ℕ} → Step read line at a end
+      → (f : A → List (List ℕ) → Option R) → with_word read (words_from line at) f ≡ f a (words_from line (end + 1))
+  unfolding with_word given
+  goes s f = rw (s.words, s.reads)
+
+  pub stopped : found_at read line at ≡ None → (f : A → List (List ℕ) → Option R) → with_word read (words_from line at) f ≡ None
   unfolding found_then with_word given
   stopped e f = place (leb at (length line)) refl
     where
       word : at ≤ length line → (o : Option A) → read (first (drop at line)) ≡ o
-          → found_then o (at + length (first (drop at line))) ≡ nothing → with_word read (words_from line at) f ≡ not_understood
-      word h none p q = rw (from_within line at h, p)
-      word h (some b) p q = absurd (let z : ◌≡◌ {A = ℕ} 0 1 = cc in omega arith)
+          → found_then o (at + length (first (drop at line))) ≡ None → with_word read (words_from line at) f ≡ None
+      word h None p q = rw (from_within line at h, p)
+      word h (Some b) p q = absurd (let z : ◌≡◌ {A = ℕ} 0 1 = cc in omega arith)
 
-      place : (t : Bool) → leb at (length line) ≡ t → with_word read (words_from line at) f ≡ not_understood
-      place true t = word (leb-true at (length line) t) (read (first (drop at line))) refl (sym (found_within (leb-true at (length line) t)) ∙ e)
+      place : (t : Bool) → leb at (length line) ≡ t → with_word read (words_from line at) f ≡ None
+      place true t = word (leb-true at (length line) t) (read (first (drop at line))) refl (sym (found_within read line at (leb-true at (length line) t)) ∙ e)
       place false t = rw (from_past line at (leb-false at (length line) t))

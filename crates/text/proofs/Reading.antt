@@ -5,7 +5,7 @@ use native.Mathlib.Nat.{zero-add, pow-suc, div-lt_iff_lt-mul, div-add-mod'}
 use native.Mathlib.Omega.{arith}
 use mathlib.Core.List.{List, [], ◌∷◌, ◌++◌}
 use mathlib.Core.Bool.{Bool, true, false, ◌&&◌, not}
-use mathlib.Core.Option.{some}
+use Rattle.std.specs.Prelude.{Some}
 use lib.Dec.{ltb, eqb, lit<}
 use borrow.Author.Tests.{le-leb, ne_eqb, ltb-true, ltb-false}
 use Rattle.text.specs.Words.{is_digit, decimals, unpadded, value_from, largest, numeral}
@@ -89,12 +89,12 @@ reads (suc k) n h = go (ltb n 10) refl (reads k (n / 10) ((div-lt_iff_lt-mul (li
     go false e r = reads_more k n (ltb-false n 10 e) r
 
 -- every number that a line may give, printed and read again
-zero_read : numeral (decimal 0) ≡ some 0
-unfolding numeral decimal decimal_on digit unpadded decimals is_digit value_from largest
+zero_read : numeral (decimal 0) ≡ Some 0
+unfolding numeral decimal decimal_on digit unpadded decimals is_digit value_from
 zero_read = refl
 
-pub decimal_read : (n : ℕ) → n ≤ largest → numeral (decimal n) ≡ some n
-unfolding largest decimal numeral
+pub decimal_read : (n : ℕ) → n ≤ largest → numeral (decimal n) ≡ Some n
+unfolding decimal numeral
 decimal_read zero h = zero_read
 decimal_read (suc m) h =
     let r = reads 9 (suc m) (omega arith) in

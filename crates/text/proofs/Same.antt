@@ -1,32 +1,19 @@
 -- Two words are compared byte by byte. Assumes nothing.
-use mathlib.Core.Path.{◌≡◌, refl, ap}
-use Prim.Native.Nat.{ℕ, suc, ◌+◌, ◌≤◌, ◌<◌}
+use mathlib.Core.Path.{◌≡◌, refl, sym, ◌∙◌}
+use Prim.Native.Nat.{ℕ}
 use mathlib.Core.List.{List, [], ◌∷◌}
-use mathlib.Core.Bool.{true, false}
-use lib.ListN.{length, get_or, drop, drop_of_length-le}
+use mathlib.Core.Bool.{Bool}
 use lib.Dec.{eqb}
-use borrow.Author.Tests.{ne_eqb, eq-eqb}
+use lib.Pointwise.{pointwise}
 use Rattle.text.specs.Words.{same}
-use Rattle.text.proofs.Places.{byte_at}
-use Rattle.text.proofs.Numbers.{and_false}
 
-pub lengths_differ : (a b : List ℕ) → (length a ≡ length b → ⊥) → same a b ≡ false
+same_pointwise : (a b : List ℕ) → pointwise eqb a b ≡ same a b
 unfolding same
-lengths_differ [] [] h = absurd (h refl)
-lengths_differ [] (c ∷ b) h = refl
-lengths_differ (d ∷ a) [] h = refl
-lengths_differ (d ∷ a) (c ∷ b) h = rw (lengths_differ a b (λ e. h (ap suc e)), and_false (eqb d c))
+same_pointwise [] [] = refl
+same_pointwise [] (c ∷ b) = refl
+same_pointwise (d ∷ a) [] = refl
+same_pointwise (d ∷ a) (c ∷ b) = rw (same_pointwise a b)
 
-module _ (a b : List ℕ) (i : ℕ) where
-  pub same_more : i < length a → i < length b → get_or a i 0 ≡ get_or b i 0
-      → same (drop i a) (drop i b) ≡ same (drop (i + 1) a) (drop (i + 1) b)
-  unfolding same
-  same_more h k e = rw (byte_at a i h, byte_at b i k, eq-eqb (get_or a i 0) (get_or b i 0) e)
-
-  pub bytes-differ : i < length a → i < length b → (get_or a i 0 ≡ get_or b i 0 → ⊥) → same (drop i a) (drop i b) ≡ false
-  unfolding same
-  bytes-differ h k e = rw (byte_at a i h, byte_at b i k, ne_eqb (get_or a i 0) (get_or b i 0) e)
-
-  pub same_end : length a ≤ i → length b ≤ i → same (drop i a) (drop i b) ≡ true
-  unfolding same
-  same_end h k = rw (drop_of_length-le a h, drop_of_length-le b k)
+-- what `==` says of two words, the second of which is written out
+pub compared : {r t : Bool} (a b : List ℕ) {w : List ℕ} → r ≡ pointwise eqb a b → b ≡ w → r ≡ t → same a w ≡ t
+compared a b e q p = rw (← q, ← same_pointwise a b) (sym e ∙ p)

@@ -1,38 +1,38 @@
 -- What the code finds at a place of a line, a number or a set, is what the word there writes. Assumes nothing.
-use mathlib.Core.Path.{◌≡◌, refl, ◌∙◌, ap}
+use mathlib.Core.Path.{◌≡◌, refl, sym, ◌∙◌, ap}
 use Prim.Native.Nat.{ℕ, ◌+◌, ◌≤◌, ◌<◌}
 use native.Mathlib.Nat.{le_of_lt}
 use native.Mathlib.Omega.{arith}
 use mathlib.Core.List.{List, [], ◌∷◌}
 use mathlib.Core.Bool.{Bool, true, false, cond}
-use mathlib.Core.Option.{Option, none, some}
+use Rattle.std.specs.Prelude.{Option, None, Some}
+use Rattle.std.specs.Option.{option_map}
 use lib.ListN.{length, drop, get_or, drop_of_length-le}
 use lib.Dec.{leb, eqb}
 use borrow.Author.Tests.{ne_eqb, leb-true, leb-false}
 use Rattle.text.specs.Words.{ascii, same, numeral, argument, only}
-use Rattle.text.specs.Scan.{first, empty, ends_at, dash_at, Found, it, nothing, found_then, found_at, as_number, as_set, number_at, set_at}
+use Rattle.text.specs.Scan.{first, empty, ends_at, dash_at, found_then, number_at, set_at}
 use Rattle.text.specs.declared.Members.{Members}
 use Rattle.text.specs.declared.Members.TheVariants.{Everyone, Only}
-use Rattle.text.specs.declared.scan.Number.TheVariants as number
-use Rattle.text.specs.declared.scan.Set.TheVariants as set
+use Rattle.text.specs.declared.scan.Found.{Found}
 use Rattle.text.proofs.Places.{byte_at, found_within, found-past}
-use Rattle.text.proofs.Numbers.{first_more, and_false, number_here, here_empty, here_zero}
+use Rattle.text.proofs.Numbers.{number, first_more, and_false, number_here, here_empty, here_zero}
 
 -- the number at a place is that of the first word there
 pub number_within : (line : List ℕ) (at : ℕ) → at ≤ length line → number_at line at ≡ number_here at (drop at line)
 unfolding number_here
-number_within line at h = ap as_number (found_within numeral line at h)
+number_within line at h = found_within numeral line at h
 
-pub number_past : (line : List ℕ) (at : ℕ) → length line ≤ at → number_at line at ≡ number.Not
-unfolding as_number
+pub number_past : (line : List ℕ) (at : ℕ) → length line ≤ at → number_at line at ≡ None
 number_past line at h = go (leb at (length line)) refl
   where
-    go : (t : Bool) → leb at (length line) ≡ t → number_at line at ≡ number.Not
+    go : (t : Bool) → leb at (length line) ≡ t → number_at line at ≡ None
     go true q = number_within line at (leb-true at (length line) q) ∙ rw (drop_of_length-le line h) (here_empty at)
-    go false q = ap as_number (found-past numeral line at (leb-false at (length line) q))
+    go false q = found-past numeral line at (leb-false at (length line) q)
 
-pub number_byte : (line : List ℕ) (at : ℕ) → at < length line → number_at line at ≡ number_here at (get_or line at 0 ∷ drop (at + 1) line)
-number_byte line at h = number_within line at (omega arith) ∙ ap (number_here at) (byte_at line at h)
+pub number_byte : (line : List ℕ) (at : ℕ) → at < length line → {b : ℕ} → b ≡ get_or line at 0
+    → number_at line at ≡ number_here at (b ∷ drop (at + 1) line)
+number_byte line at h {b} e = number_within line at (omega arith) ∙ ap (number_here at) (byte_at line at h ∙ ap (λ (n : ℕ). n ∷ drop (at + 1) line) (sym e))
 
 -- where a word ends
 pub ends_past : (line : List ℕ) (at : ℕ) → length line ≤ at → ends_at line at ≡ true
@@ -48,11 +48,11 @@ ends_byte line at h = rw (byte_at line at h) (go (eqb (get_or line at 0) 32))
     go false = refl
 
 -- a zero stands alone
-pub zero_at : (line : List ℕ) (at : ℕ) → at < length line → get_or line at 0 ≡ 48 → (t : Bool) → ends_at line (at + 1) ≡ t
-    → number_at line at ≡ cond t (number.Is 0 (at + 1)) number.Not
+pub zero_at : (line : List ℕ) (at : ℕ) → at < length line → {b : ℕ} → b ≡ get_or line at 0 → b ≡ 48 → (t : Bool) → ends_at line (at + 1) ≡ t
+    → number_at line at ≡ cond t (number 0 (at + 1)) None
 unfolding ends_at
-zero_at line at h e t q =
-    number_byte line at h ∙ (here_zero at (get_or line at 0) (drop (at + 1) line) e ∙ ap (λ (u : Bool). cond u (number.Is 0 (at + 1)) number.Not) q)
+zero_at line at h {b} g e t q =
+    number_byte line at h g ∙ (here_zero at b (drop (at + 1) line) e ∙ ap (λ (u : Bool). cond u (number 0 (at + 1)) None) q)
 
 -- whether the word is `-`
 same-empty : (w : List ℕ) → same w [] ≡ empty w
@@ -91,57 +91,27 @@ dash_length [] e = absurd (let z : ◌≡◌ {A = ℕ} 0 1 = cc in omega arith)
 dash_length (b ∷ []) e = refl
 dash_length (b ∷ c ∷ w) e = absurd (let z : ◌≡◌ {A = ℕ} 0 1 = cc (and_false (eqb b 45)) in omega arith)
 
-pub everyone_at : (line : List ℕ) (at : ℕ) → dash_at line at ≡ true → set_at line at ≡ set.Is Everyone (at + 1)
-unfolding dash_at argument as_set found_then
+pub everyone_at : (line : List ℕ) (at : ℕ) → dash_at line at ≡ true → set_at line at ≡ Some (record { it = Everyone; end = at + 1 })
+unfolding dash_at argument found_then
 everyone_at line at e =
-    ap as_set (found_within argument line at (le_of_lt (dash_within line at e)))
+    found_within argument line at (le_of_lt (dash_within line at e))
     ∙ rw (e, dash_length (first (drop at line)) e)
 
 -- where the word is not `-`, a set is found as its number is
-only_of : Found ℕ → Found Members
-only_of (it n end) = it (Only n) end
-only_of nothing = nothing
+abbrev pub only_of : Found ℕ → Found Members
+only_of f = record { it = Only f.it; end = f.end }
 
-only-found : (o : Option ℕ) (end : ℕ) → found_then (only o) end ≡ only_of (found_then o end)
-unfolding found_then only only_of
-only-found none end = refl
-only-found (some n) end = refl
+only-found : (o : Option ℕ) (end : ℕ) → found_then (only o) end ≡ option_map only_of (found_then o end)
+unfolding found_then only
+only-found None end = refl
+only-found (Some n) end = refl
 
-found-only : (line : List ℕ) (at : ℕ) → dash_at line at ≡ false → found_at argument line at ≡ only_of (found_at numeral line at)
-unfolding dash_at argument only_of
-found-only line at e = go (leb at (length line)) refl
+pub set_number : (line : List ℕ) (at : ℕ) → dash_at line at ≡ false → set_at line at ≡ option_map only_of (number_at line at)
+unfolding dash_at argument
+set_number line at e = go (leb at (length line)) refl
   where
-    go : (t : Bool) → leb at (length line) ≡ t → found_at argument line at ≡ only_of (found_at numeral line at)
+    go : (t : Bool) → leb at (length line) ≡ t → set_at line at ≡ option_map only_of (number_at line at)
     go true q =
         let h = leb-true at (length line) q in
         rw (found_within argument line at h, found_within numeral line at h, e) (only-found (numeral (first (drop at line))) (at + length (first (drop at line))))
     go false q = let h = leb-false at (length line) q in rw (found-past argument line at h, found-past numeral line at h)
-
-pub number_found : (f : Found ℕ) (n end : ℕ) → number.Is n end ≡ as_number f → f ≡ it n end
-unfolding as_number
-number_found (it m p) n end e = cc
-number_found nothing n end e = cc
-
-pub number_none : (f : Found ℕ) → number.Not ≡ as_number f → f ≡ nothing
-unfolding as_number
-number_none (it m p) e = cc
-number_none nothing e = refl
-
-pub only_at : (line : List ℕ) (at n end : ℕ) → dash_at line at ≡ false → number.Is n end ≡ number_at line at
-    → set_at line at ≡ set.Is (Only n) end
-unfolding as_set only_of
-only_at line at n end e q = rw (found-only line at e, number_found (found_at numeral line at) n end q)
-
-pub none_at : (line : List ℕ) (at : ℕ) → dash_at line at ≡ false → number.Not ≡ number_at line at → set_at line at ≡ set.Not
-unfolding as_set only_of
-none_at line at e q = rw (found-only line at e, number_none (found_at numeral line at) q)
-
-pub set_found : (f : Found Members) (m : Members) (end : ℕ) → set.Is m end ≡ as_set f → f ≡ it m end
-unfolding as_set
-set_found (it m' p) m end e = cc
-set_found nothing m end e = cc
-
-pub set_none : (f : Found Members) → set.Not ≡ as_set f → f ≡ nothing
-unfolding as_set
-set_none (it m p) e = cc
-set_none nothing e = refl

@@ -6,53 +6,12 @@ use native.Mathlib.Numerals.{add-one}
 use native.Mathlib.Omega.{arith}
 use mathlib.Core.List.{List, ◌∷◌, ◌++◌, append_assoc}
 use mathlib.Core.Bool.{Bool, true, false, cond}
-use lib.ListN.{length, take, drop, set, get_or, length-append, length-set, length-drop}
-use lib.Seq.{paste, paste-zero, paste-suc, take-length, length-take-le, take_at, take-take, take-set-le, drop_at, drop-cons, get_or-set_same, drop-set-lt}
+use lib.ListN.{length, take, drop, set, length-append, length-set, length-drop}
+use lib.Seq.{take-take, take-set-le, drop-cons, get_or-set_same, drop-set-lt}
 use lib.Dec.{ltb, eqb, lit<}
 use borrow.Author.Tests.{lt-ltb, le-ltb, eq-eqb, ne_eqb}
 use Rattle.text.specs.Words.{ascii}
 use Rattle.text.specs.Answer.{digit, decimal_on, decimal, high_end, end_of, Written}
-
--- a word that is put at a place, byte by byte
-pub record Copied (old : List ℕ) (at : ℕ) (word out : List ℕ) (i : ℕ) : Type 0 where
-  pub room : at + length word ≤ length old
-  pub within : i ≤ length word
-  pub long : length out ≡ length old
-  pub bytes : out ≡ paste old at word i
-
-pub copy_begin : (old : List ℕ) (at : ℕ) (word : List ℕ) → at + length word ≤ length old → Copied old at word old 0
-copy_begin old at word h = record { room = h; within = omega arith; long = refl; bytes = paste-zero old at word }
-
-module _ {old : List ℕ} {at : ℕ} {word out : List ℕ} {i : ℕ} (s : Copied old at word out i) where
-  pub copy_more : i < length word → Copied old at word (set out (at + i) (get_or word i 0)) (i + 1)
-  copy_more h =
-      record {
-        room = s.room;
-        within = omega arith;
-        long = length-set out (at + i) (get_or word i 0) ∙ s.long;
-        bytes = rw (s.bytes, add-one) (paste-suc old at word i 0 (omega arith) h);
-      }
-
-  pub copy-end : length word ≤ i → out ≡ take at old ++ (word ++ drop (at + length word) old)
-  copy-end h =
-      let n : i ≡ length word = omega arith in
-      (rw (n, take-length word) at s.bytes) ∙ append_assoc (take at old) word (drop (at + length word) old)
-
--- a word that was put where it ends at `at`
-pub put_written : (old new word : List ℕ) (at : ℕ) → length word ≤ at → at ≤ length old
-    → new ≡ take (at - length word) old ++ (word ++ drop (at - length word + length word) old)
-    → Written old at new (at - length word) word
-put_written old new word at h k e =
-    let from = at - length word in
-    let p : from + length word ≡ at = omega arith in
-    record {
-      place = p;
-      front = ap (take from) e ∙ take_at (take from old) (word ++ drop (from + length word) old) from (length-take-le from old (omega arith));
-      bytes =
-          ap (drop from) e
-          ∙ (drop_at (take from old) (word ++ drop (from + length word) old) from (length-take-le from old (omega arith))
-          ∙ ap (λ (n : ℕ). word ++ drop n old) p);
-    }
 
 -- what agrees up to a place agrees up to any place before it
 shorter : (m n : ℕ) (l l' : List ℕ) → m ≤ n → take n l ≡ take n l' → take m l ≡ take m l'

@@ -1,5 +1,4 @@
 pub mod Words
 pub mod Line
 pub mod Scan
-pub mod Kinds
 pub mod Answer

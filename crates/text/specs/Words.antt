@@ -1,10 +1,9 @@
 -- The words of a command line, and the numbers and sets that they write. The rules paper, "Line program".
 -- A line is the list of its bytes, its newline not among them.
-use Rattle.std.specs.Prelude.{ℕ, ◌+◌, ◌-◌, ◌*◌, List, [], ◌∷◌, Bool, true, false, ◌&&◌, not, cond, leb, eqb}
+use Rattle.std.specs.Prelude.{ℕ, ◌+◌, ◌-◌, ◌*◌, List, [], ◌∷◌, Option, None, Some, Bool, true, false, ◌&&◌, not, cond, leb, eqb}
 use Prim.Native.Char.{code}
 use Prim.Native.String.{String}
 use Prim.Native.String as string
-use Rattle.std.proofs.Math.Option.{Option, none, some}
 use Rattle.text.specs.declared.Members.{Members}
 use Rattle.text.specs.declared.Members.TheVariants.{Everyone, Only}
 
@@ -49,16 +48,16 @@ unfoldable pub value_from : ℕ → List ℕ → ℕ
 value_from n [] = n
 value_from n (b ∷ w) = value_from (n * 10 + (b - 48)) w
 
-unfoldable pub largest : ℕ
+abbrev pub largest : ℕ
 largest = 4294967295
 
 unfoldable pub numeral : List ℕ → Option ℕ
-numeral w = cond (unpadded w && decimals w && leb (value_from 0 w) largest) (some (value_from 0 w)) none
+numeral w = cond (unpadded w && decimals w && leb (value_from 0 w) largest) (Some (value_from 0 w)) None
 
 -- "A set written `-` means all members"
 unfoldable pub only : Option ℕ → Option Members
-only none = none
-only (some n) = some (Only n)
+only None = None
+only (Some n) = Some (Only n)
 
 unfoldable pub argument : List ℕ → Option Members
-argument w = cond (same w (ascii "-")) (some Everyone) (only (numeral w))
+argument w = cond (same w (ascii "-")) (Some Everyone) (only (numeral w))

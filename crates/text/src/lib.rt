@@ -6,7 +6,7 @@ mod scan;
 mod write;
 
 ghost use Rattle.std.specs.Prelude.{◌≡◌, length};
-ghost use Rattle.text.specs.Line.{command_of, alone, suite_of};
+ghost use Rattle.text.specs.Line.{command_of, ballots_of};
 ghost use Rattle.text.specs.Answer.{text_of, place_after, printed};
 
 // A set of members as a line gives it: `-` is everyone.
@@ -47,7 +47,6 @@ pub enum Command {
         write: Members,
         name: u32,
     },
-    NotUnderstood,
 }
 
 impl Command {
@@ -55,47 +54,38 @@ impl Command {
     pub const LONGEST: usize = 80;
 }
 
-// A command, with the votes of `suite`: the first eight, zeros after them, and how many there were.
+// What a `suite` line asks for: R, W, its first eight votes, zeros after them, and how many votes there were.
 #[derive(Clone, Copy)]
-pub struct Parsed {
-    pub command: Command,
-    pub votes: [u32; Parsed::VOTES],
+pub struct Creation {
+    pub read: u32,
+    pub write: u32,
+    pub votes: [u32; Creation::VOTES],
     pub count: usize,
 }
 
-impl Parsed {
+impl Creation {
     // How many votes are kept: a suite has no more members.
     pub const VOTES: usize = 8;
-
-    // A command without votes.
-    pub(crate) fn alone(command: Command) -> Parsed
-        ensures { result ≡ alone command }
-    {
-        Parsed {
-            command,
-            votes: [0; Parsed::VOTES],
-            count: 0,
-        }
-    }
 }
 
-// The command that a line gives, `NotUnderstood` for a line of any other form.
-pub fn parse(line: &[u8]) -> Command
-    ensures { result ≡ (command_of line.now).command }
+// The command that a line gives, if it gives one.
+pub fn parse(line: &[u8]) -> Option<Command>
+    ensures { result ≡ command_of line.now }
 {
-    let end = grammar::word_end(line);
+    let end = grammar::word_end(line)?;
     grammar::command_in(line, end)
 }
 
-// The command of a `suite` line with its votes; any other line is not understood here. The room for votes is only made where it is asked for.
-pub fn ballots(line: &[u8]) -> Parsed
-    ensures { result ≡ suite_of (command_of line.now) }
+// What a `suite` line asks for. The room for votes is only made where it is asked for.
+pub fn ballots(line: &[u8]) -> Option<Creation>
+    ensures { result ≡ ballots_of line.now }
 {
-    let end = grammar::word_end(line);
-    if scan::same(&line[..end], b"suite") {
-        return grammar::creating(line, end + 1);
+    let end = grammar::word_end(line)?;
+    if &line[..end] == b"suite".as_slice() {
+        grammar::creating(line, end + 1)
+    } else {
+        None
     }
-    Parsed::alone(Command::NotUnderstood)
 }
 
 // What a line is answered.

@@ -1,162 +1,120 @@
 // Going along a line, word by word. A place is where a word begins; the place behind the last word is one past the line's end.
 ghost use Rattle.std.specs.Prelude.{◌≡◌, ◌≤◌, length, drop};
-ghost use Rattle.text.specs.Words.{same, largest};
-ghost use Rattle.text.specs.Scan.{letters_of, ends_at, dash_at, number_on, number_at, set_at};
+ghost use Rattle.std.specs.List.{prefix_len};
+ghost use Rattle.text.specs.Words.{largest};
+ghost use Rattle.text.specs.Line.{with_number, with_nothing};
+ghost use Rattle.text.specs.Scan.{is_letter, ends_at, dash_at, words_from, number_on, number_at, set_at};
 
 use crate::Members;
 
-// The number that the word at a place writes, with where the word ends; or the word writes none, or there is no word.
-#[derive(Clone, Copy)]
-pub(crate) enum Number {
-    Is { value: u32, end: usize },
-    Not,
-}
+const LARGEST: u64 = 4_294_967_295;
 
-impl Number {
-    pub(crate) const LARGEST: u64 = 4_294_967_295;
-}
-
-// The same for a word that may be `-`.
+// What the word at a place writes, a number or a set, and where the word ends.
 #[derive(Clone, Copy)]
-pub(crate) enum Set {
-    Is { members: Members, end: usize },
-    Not,
+pub(crate) struct Found<T> {
+    pub(crate) it: T,
+    pub(crate) end: usize,
 }
 
 // How many letters the line begins with.
 pub(crate) fn letters(line: &[u8]) -> usize
-    ensures { result ≡ letters_of line.now }
+    ensures { result ≡ prefix_len is_letter line.now }
 {
-    let mut i = 0;
-    while i < line.len() {
-        let b = line[i];
-        match b {
-            b'a'..=b'z' => i += 1,
-            _ => return i,
-        }
-    }
-    i
+    line.iter().take_while(|b| is_letter(**b)).count()
 }
 
-// Whether two words are the same.
-pub(crate) fn same(a: &[u8], b: &[u8]) -> bool
-    ensures { result ≡ same a.now b.now }
+fn is_letter(b: u8) -> bool
+    ensures { result ≡ is_letter b }
 {
-    if a.len() != b.len() {
-        return false;
-    }
-    let mut i = 0;
-    while i < a.len() {
-        if a[i] != b[i] {
-            return false;
-        }
-        i += 1;
-    }
-    true
+    matches!(b, b'a'..=b'z')
 }
 
 // Whether a word ends at `at`: the line does, or a space is there.
 fn ends_at(line: &[u8], at: usize) -> bool
     ensures { result ≡ ends_at line.now at }
 {
-    if line.len() <= at {
-        return true;
-    }
-    line[at] == b' '
+    line.len() <= at || line[at] == b' '
 }
 
 // Whether the word at `at` is `-`.
 fn dash_at(line: &[u8], at: usize) -> bool
     ensures { result ≡ dash_at line.now at }
 {
-    if line.len() <= at {
-        return false;
-    }
-    if line[at] != b'-' {
-        return false;
-    }
-    ends_at(line, at + 1)
+    at < line.len() && line[at] == b'-' && ends_at(line, at + 1)
 }
 
 // The set at a place.
-pub(crate) fn set_at(line: &[u8], at: usize) -> Set
+pub(crate) fn set_at(line: &[u8], at: usize) -> Option<Found<Members>>
     ensures { result ≡ set_at line.now at }
 {
     if dash_at(line, at) {
-        return Set::Is {
-            members: Members::Everyone,
+        return Some(Found {
+            it: Members::Everyone,
             end: at + 1,
-        };
+        });
     }
-    let Number::Is { value, end } = number_at(line, at) else {
-        return Set::Not;
-    };
-    Set::Is {
-        members: Members::Only(value),
-        end,
-    }
+    let number = number_at(line, at)?;
+    Some(Found {
+        it: Members::Only(number.it),
+        end: number.end,
+    })
 }
 
 // The number at a place. A zero stands alone.
-pub(crate) fn number_at(line: &[u8], at: usize) -> Number
+pub(crate) fn number_at(line: &[u8], at: usize) -> Option<Found<u32>>
     ensures { result ≡ number_at line.now at }
 {
-    if line.len() <= at {
-        return Number::Not;
-    }
-    let b = line[at];
+    let b = *line.get(at)?;
     match b {
-        b'1'..=b'9' => digits(line, at + 1, wide(b - b'0')),
+        b'1'..=b'9' => digits(line, at + 1, u64::from(b - b'0')),
         b'0' => {
             if ends_at(line, at + 1) {
-                Number::Is {
-                    value: 0,
-                    end: at + 1,
-                }
+                Some(Found { it: 0, end: at + 1 })
             } else {
-                Number::Not
+                None
             }
         }
-        _ => Number::Not,
+        _ => None,
     }
+}
+
+// The number at a place, where the line ends with it.
+pub(crate) fn last_number_at(line: &[u8], at: usize) -> Option<u32>
+    ensures { result ≡ with_number (words_from line.now at) (λ n ws. with_nothing ws n) }
+{
+    let number = number_at(line, at)?;
+    if number.end < line.len() {
+        return None;
+    }
+    Some(number.it)
 }
 
 // The number whose digits go on at `at`, after digits that come to `value`.
-fn digits(line: &[u8], at: usize, value: u64) -> Number
+fn digits(line: &[u8], at: usize, value: u64) -> Option<Found<u32>>
     requires { (at ≤ length line.now) × (value ≤ largest) }
     ensures { result ≡ number_on value at (drop at line.now) }
 {
-    let mut v = value;
-    let mut i = at;
-    while i != line.len() {
+    let mut value = value;
+    for i in at..line.len() {
         let b = line[i];
         match b {
             b'0'..=b'9' => {
-                v = v * 10 + wide(b - b'0');
-                if Number::LARGEST < v {
-                    return Number::Not;
+                value = value * 10 + u64::from(b - b'0');
+                if LARGEST < value {
+                    return None;
                 }
-                i += 1;
             }
-            _ => {
-                if b == b' ' {
-                    return Number::Is {
-                        value: v as u32,
-                        end: i,
-                    };
-                }
-                return Number::Not;
+            b' ' => {
+                return Some(Found {
+                    it: value as u32,
+                    end: i,
+                });
             }
+            _ => return None,
         }
     }
-    Number::Is {
-        value: v as u32,
-        end: i,
-    }
-}
-
-fn wide(x: u8) -> u64
-    ensures { result ≡ x }
-{
-    x as u64
+    Some(Found {
+        it: value as u32,
+        end: line.len(),
+    })
 }

@@ -5,25 +5,13 @@ ghost use Rattle.text.specs.Answer.{decimal, end_of, text_of, Written};
 
 use crate::Reply;
 
-// Puts a word into `out` at `at`, where there is room for it.
-fn put(out: &mut [u8], at: usize, word: &[u8])
-    requires { at + length word.now ≤ length out.old }
-    ensures { out.new ≡ take at out.old ++ (word.now ++ drop (at + length word.now) out.old) }
-{
-    let mut i = 0;
-    while i < word.len() {
-        out[at + i] = word[i];
-        i += 1;
-    }
-}
-
 // Puts a word in front of `at`, and answers where it begins.
 fn prepend(text: &mut [u8], at: usize, word: &[u8]) -> usize
     requires { (length word.now ≤ at) × (at ≤ length text.old) }
     ensures { Written text.old at text.new result word.now }
 {
     let from = at - word.len();
-    put(text, from, word);
+    text[from..at].copy_from_slice(word);
     from
 }
 
@@ -109,7 +97,7 @@ pub(crate) fn line(text: &mut [u8], at: usize, reply: Reply) -> usize
     }
 }
 
-// How many digits a number has.
+// How many digits a number has. Few tests decide, where a match on ten ranges would try one after another.
 fn digits(n: u32) -> usize
     ensures { (result ≡ length (decimal n)) × (result ≤ 10) }
 {

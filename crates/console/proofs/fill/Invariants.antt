@@ -1,9 +1,9 @@
 -- Fills the text: what is read never passes its end, and each turn reads a byte at least.
-use Rattle.std.proofs.Common.{length, ◌-◌, ◌≡◌, ◌≤◌}
+use Rattle.std.proofs.Common.{length, ◌-◌, ◌≤◌}
 use Rattle.console.proofs.fill.Given as goal
 
 abbrev pub invariant-loop-done : goal.invariant-loop-done
-invariant-loop-done g l = (length l.text ≡ length l.initial.text) × (l.done ≤ length l.text)
+invariant-loop-done g l = l.done ≤ length l.text
 
 abbrev pub decreases-loop-done : goal.decreases-loop-done
 decreases-loop-done g l = length l.text - l.done

@@ -34,7 +34,7 @@ behind-requires c = has_narrow _ _ _ (passed (goal.at.behind-requires c).Then-ha
 pub join-requires : goal.join-requires
 join-requires c =
     may_join c.args.at _ _ _ (has_narrow _ _ _ (passed (goal.at.join-requires c).Then-has_word)) c.behind.ensures
-    (before_lt _ _ c.wide.ensures.1)
+    (before_lt _ _ (omega (arith, c.from.ensures, (goal.at.join-requires c).Then-has_word.type_inv.bytes (c.args.at / 8))))
 
 pub put_word-requires : goal.put_word-requires
 put_word-requires c = has_within _ _ _ (passed (goal.at.put_word-requires c).Then-has_word)
@@ -44,7 +44,7 @@ returns-then-has_word c =
     let args = c.args in
     c.put_word.ensures
     ∙ append-met args.bytes.now args.at args.width args.v (byte-list (goal.at.returns-then-has_word c).Then-has_word) (passed (goal.at.returns-then-has_word c).Then-has_word) _ _ _
-    (ap (λ (x : ℕ). x / 2 ^ (8 - args.at % 8)) c.wide.ensures.0)
+    (ap (λ (x : ℕ). x / 2 ^ (8 - args.at % 8)) c.from.ensures)
     c.behind.ensures
     c.join.ensures
 

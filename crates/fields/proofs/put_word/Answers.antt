@@ -1,17 +1,19 @@
--- `fields::put_word` meets its contract: four bytes and four.
+-- `fields::put_word` meets its contract: the bytes of the word replace eight of the image.
 -- Assumes nothing.
-use Prim.Native.Nat.{ℕ, ◌+◌}
-use mathlib.Core.Path.{ap, ◌∙◌}
-use mathlib.Core.List.{List}
-use lib.Seq.{sets}
+use Prim.Native.Nat.{◌+◌, ◌-◌}
+use native.Mathlib.Nat.{div-one}
+use native.Mathlib.Omega.{arith}
+use mathlib.Core.Path.{refl, sym, ◌∙◌}
+use lib.Seq.{sets-eq}
+use Rattle.std.proofs.lemmas.Slice.{put_mid-paste}
 use Rattle.fields.specs.Word.{bytes_in}
-use Rattle.fields.proofs.Storing.{word_halves}
 use Rattle.fields.proofs.put_word.Goals as goal
 
 pub returns : goal.returns
 returns c =
     let a = c.args in
-    c.put_half-2.ensures
-    ∙ ap (λ (l : List ℕ). sets l (a.first + 4) (bytes_in 4 a.word))
-    c.put_half.ensures
-    ∙ word_halves a.bytes.now a.first a.word
+    put_mid-paste a.first (a.first + 8 - a.first) a.bytes.now c.copy_from_slice.new.self (bytes_in 8 a.word) 8
+    (c.copy_from_slice.ensures.after ∙ simp div-one c.to_be_bytes.ensures)
+    (omega arith)
+    refl
+    ∙ sym (sets-eq (bytes_in 8 a.word) a.bytes.now a.first c.requires)

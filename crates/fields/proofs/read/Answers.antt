@@ -8,7 +8,7 @@ use lib.ListN.{length}
 use Rattle.fields.specs.Field.{fits_in}
 use Rattle.fields.specs.Word.{part_of}
 use Rattle.fields.proofs.Below.{below_of_lem}
-use Rattle.fields.proofs.Answers.{fits_narrow, read_short}
+use Rattle.fields.proofs.Answers.{fits_narrow, fits_within, read_short}
 use Rattle.fields.proofs.Within.{read-met}
 use Rattle.fields.proofs.read.Goals as goal
 use Rattle.fields.proofs.read.Goals.{Then-fits}
@@ -22,6 +22,10 @@ passed c = sym c.fits.ensures ∙ c.if-fits.true
 
 narrow : (c : Then-fits) → c.args.width ≤ 56
 narrow c = fits_narrow _ _ _ (passed c)
+
+pub word-requires : goal.word-requires
+word-requires c =
+    omega (arith, fits_within (length c.args.bytes.now) c.args.at c.args.width (passed (goal.at.word-requires c).Then-fits))
 
 pub behind-requires : goal.behind-requires
 behind-requires c = narrow (goal.at.behind-requires c).Then-fits

@@ -1,26 +1,17 @@
 -- `text::ballots`: the arguments of `suite`, where that is the line's word.
-use mathlib.Core.Path.{sym, ◌∙◌, ap}
-use native.Mathlib.Omega.{arith}
-use lib.Seq.{length-take-le}
+use mathlib.Core.Path.{sym, ◌∙◌}
 use Rattle.text.specs.Words.{ascii}
-use Rattle.text.specs.Line.{not_understood, suite_of}
-use Rattle.text.proofs.Suites.{suite-word, other_word}
+use Rattle.text.proofs.Commands.{suite-word, other_word}
+use Rattle.text.proofs.Same.{compared}
 use Rattle.text.proofs.ballots.Goals as goal
 
-pub slice_bounds-same-end : goal.slice_bounds-same-end
-slice_bounds-same-end c = sym (length-take-le _ _ c.word_end-end.ensures.within)
-
-pub overflow_add-end : goal.overflow_add-end
-overflow_add-end c = omega (arith, c.word_end-end.ensures.within)
-
-pub returns-then-same : goal.returns-then-same
+pub returns-then-eq : goal.returns-then-eq
 unfolding ascii
-returns-then-same c =
+returns-then-eq c =
     c.creating.ensures
-    ∙ sym (ap suite_of c.word_end-end.ensures.gives ∙ suite-word _ _ (sym c.same.ensures ∙ c.if-same.true))
+    ∙ sym (c.in_ok-end.ensures.ballots ∙ suite-word _ _ (compared _ _ c.eq.ensures c.as_slice.ensures c.if-eq.true))
 
-pub returns : goal.returns
-unfolding ascii not_understood
-returns c =
-    c.alone.ensures
-    ∙ sym (ap suite_of c.word_end-end.ensures.gives ∙ other_word _ _ (sym c.same.ensures ∙ c.if-same.false))
+pub returns-else-eq : goal.returns-else-eq
+unfolding ascii
+returns-else-eq c =
+    sym (c.in_ok-end.ensures.ballots ∙ other_word _ _ (compared _ _ c.eq.ensures c.as_slice.ensures c.if-eq.false))

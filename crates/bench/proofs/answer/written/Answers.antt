@@ -1,31 +1,18 @@
 -- `written` writes the image where it fits, and puts the numbers.
-use mathlib.Core.Path.{sym, ap, ◌∙◌}
-use mathlib.Core.List.{List}
-use Prim.Native.Nat.{ℕ}
-use Rattle.suite.specs.Outcome.{number_of}
-use Rattle.directory.specs.Lent.{suite_in}
+use Rattle.std.proofs.Common.{ap, ◌∙◌, List, [], ◌∷◌, ℕ}
 use Rattle.image.specs.Layout.{image_of}
-use Rattle.image.specs.Writer.{lent_of}
-use Rattle.image.specs.declared.Written.{Written}
 use Rattle.bench.specs.Bench.{stepped}
-use Rattle.bench.proofs.Stepping.{fill-refused, fill-written}
+use Rattle.bench.proofs.Stepping.{status-err, fill-refused, fill-written}
 use Rattle.bench.proofs.answer.written.Goals as goal
 
-pub returns-in-No : goal.returns-in-No
-returns-in-No c =
+pub returns-in_err-write_unchecked : goal.returns-in_err-write_unchecked
+returns-in_err-write_unchecked c =
     let a = c.args in
-    let w = c.write_unchecked-done in
-    let after = w.new.out in
-    let f = c.in-No.refusal in
-    ap (λ (k : ℕ). stepped k after a.answer.now) c.number.ensures
-    ∙ fill-refused a.numbers (image_of (suite_in a.frame a.lent.now)) a.out.now a.answer.now (number_of f) after
-    (sym (ap (λ (t : Written). lent_of t after) c.in-No.is) ∙ w.ensures)
+    ap (λ (n : ℕ). stepped n c.write_unchecked.new.out a.answer.now) (status-err c.from_residual.result _ c.from_residual.ensures.1)
+    ∙ fill-refused (a.done.version ∷ a.done.requests ∷ 0 ∷ 0 ∷ []) (image_of a.suite.now) a.out.now a.answer.now _ _ c.in_err-write_unchecked.ensures
 
 pub returns : goal.returns
 returns c =
     let a = c.args in
-    let w = c.write_unchecked-done in
-    let after = w.new.out in
-    ap (λ (l : List ℕ). stepped 0 after l) c.put_numbers.ensures
-    ∙ fill-written a.numbers (image_of (suite_in a.frame a.lent.now)) a.out.now a.answer.now _ after
-    (sym (ap (λ (t : Written). lent_of t after) c.in_default.is) ∙ w.ensures)
+    ap (λ (l : List ℕ). stepped 0 c.write_unchecked.new.out l) c.put_numbers.ensures
+    ∙ fill-written (a.done.version ∷ a.done.requests ∷ 0 ∷ 0 ∷ []) (image_of a.suite.now) a.out.now a.answer.now _ _ c.in_ok-write_unchecked.ensures

@@ -1,44 +1,86 @@
--- `call` gives the answer of the call that the operation's number stands for.
-use native.Mathlib.Omega.{arith}
-use Prim.Native.Nat.{ℕ, ◌≤◌}
-use mathlib.Core.Path.{◌≡◌, refl}
-use Rattle.suite.specs.Outcome.{looked_of, near_of}
-use Rattle.suite.specs.Calls.{lookup, neighbours}
-use Rattle.directory.specs.Lent.{suite_in, result_in}
-use Rattle.bench.specs.Bench.{call_for}
-use Rattle.bench.proofs.Stepping.{call-0, call-4, changing, asking}
+-- `call` gives the answer of the call that the operation stands for.
+use Rattle.std.proofs.Common.{refl, ap, ◌∙◌}
+use Rattle.suite.specs.Calls.{Result}
+use Rattle.bench.specs.Bench.{numbers_of}
+use Rattle.bench.proofs.Stepping.{numbers-reading, refusing, changing, asking}
 use Rattle.bench.proofs.call.call.Goals as goal
 
--- an operation over 3 is none of those before
-not-upto : (n k : ℕ) → 4 ≤ n → k ≤ 3 → n ≡ k → ⊥
-not-upto n k h i e = absurd (omega arith)
-
-pub returns-in-0 : goal.returns-in-0
-returns-in-0 c =
+pub returns-in_err-looked-in-Lookup : goal.returns-in_err-looked-in-Lookup
+returns-in_err-looked-in-Lookup c =
     let a = c.args in
-    let r = c.lookup_unchecked-done in
-    asking (suite_in a.frame a.lent.now) a.out.now a.answer.now (call_for a.operation a.read a.write a.name a.value) (lookup a.read a.name) (looked_of r.result) _ a.image.now
-    (call-0 a.operation a.read a.write a.name a.value c.in-0.is)
-    refl
-    r.ensures
-    c.requires.1
-    c.looked.ensures
+    let x = a.arguments in
+    refusing a.suite.now x.read x.write x.name x.value a.out.now a.answer.now a.operation _ c.in-Lookup.is c.from_residual.result _
+    c.from_residual.ensures.1 c.in_err-looked-in-Lookup.ensures
 
-pub returns-in-1-to-3 : goal.returns-in-1-to-3
-returns-in-1-to-3 c =
+pub returns-in_ok-looked-in-Lookup : goal.returns-in_ok-looked-in-Lookup
+returns-in_ok-looked-in-Lookup c =
     let a = c.args in
-    let r = c.change-done in
-    changing (suite_in a.frame a.lent.now) a.out.now a.answer.now (call_for a.operation a.read a.write a.name a.value) (result_in a.frame r.result r.new.lent) _ r.ensures
-    c.changed.ensures
+    let x = a.arguments in
+    let l = c.in_ok-looked-in-Lookup.looked in
+    asking a.suite.now x.read x.write x.name x.value a.out.now a.answer.now a.operation _ c.in-Lookup.is
+    _ _ _ (c.shown.ensures ∙ numbers-reading l.reading l.requests) a.image.now refl c.in_ok-looked-in-Lookup.ensures c.requires.1
+    c.kept.ensures
 
-pub returns-in_default : goal.returns-in_default
-returns-in_default c =
+pub returns-in_err-done-in-Insert : goal.returns-in_err-done-in-Insert
+returns-in_err-done-in-Insert c =
     let a = c.args in
-    let r = c.neighbours_unchecked-done in
-    let h = c.in_default.if-operation-lt4-own.false in
-    asking (suite_in a.frame a.lent.now) a.out.now a.answer.now (call_for a.operation a.read a.write a.name a.value) (neighbours a.read a.name) (near_of r.result) _ a.image.now
-    (call-4 a.operation a.read a.write a.name a.value (not-upto _ 0 h (omega arith)) (not-upto _ 1 h (omega arith)) (not-upto _ 2 h (omega arith)) (not-upto _ 3 h (omega arith)))
-    refl
-    r.ensures
-    c.requires.1
-    c.near.ensures
+    let x = a.arguments in
+    refusing a.suite.now x.read x.write x.name x.value a.out.now a.answer.now a.operation _ c.in-Insert.is c.from_residual-in_err-done-in-Insert.result _
+    c.from_residual-in_err-done-in-Insert.ensures.1 (ap (λ (r : Result). r.outcome) c.in_err-done-in-Insert.ensures)
+
+pub returns-in_ok-done-in-Insert : goal.returns-in_ok-done-in-Insert
+unfolding numbers_of
+returns-in_ok-done-in-Insert c =
+    let a = c.args in
+    let x = a.arguments in
+    changing a.suite.now x.read x.write x.name x.value a.out.now a.answer.now a.operation _ c.in-Insert.is
+    _ _ _ refl _ c.in_ok-done-in-Insert.ensures
+    c.written.ensures
+
+pub returns-in_err-done-in-Update : goal.returns-in_err-done-in-Update
+returns-in_err-done-in-Update c =
+    let a = c.args in
+    let x = a.arguments in
+    refusing a.suite.now x.read x.write x.name x.value a.out.now a.answer.now a.operation _ c.in-Update.is c.from_residual-in_err-done-in-Update.result _
+    c.from_residual-in_err-done-in-Update.ensures.1 (ap (λ (r : Result). r.outcome) c.in_err-done-in-Update.ensures)
+
+pub returns-in_ok-done-in-Update : goal.returns-in_ok-done-in-Update
+unfolding numbers_of
+returns-in_ok-done-in-Update c =
+    let a = c.args in
+    let x = a.arguments in
+    changing a.suite.now x.read x.write x.name x.value a.out.now a.answer.now a.operation _ c.in-Update.is
+    _ _ _ refl _ c.in_ok-done-in-Update.ensures
+    c.written-in-Update.ensures
+
+pub returns-in_err-done-in-Remove : goal.returns-in_err-done-in-Remove
+returns-in_err-done-in-Remove c =
+    let a = c.args in
+    let x = a.arguments in
+    refusing a.suite.now x.read x.write x.name x.value a.out.now a.answer.now a.operation _ c.in-Remove.is c.from_residual-in_err-done-in-Remove.result _
+    c.from_residual-in_err-done-in-Remove.ensures.1 (ap (λ (r : Result). r.outcome) c.in_err-done-in-Remove.ensures)
+
+pub returns-in_ok-done-in-Remove : goal.returns-in_ok-done-in-Remove
+unfolding numbers_of
+returns-in_ok-done-in-Remove c =
+    let a = c.args in
+    let x = a.arguments in
+    changing a.suite.now x.read x.write x.name x.value a.out.now a.answer.now a.operation _ c.in-Remove.is
+    _ _ _ refl _ c.in_ok-done-in-Remove.ensures
+    c.written-in-Remove.ensures
+
+pub returns-in_err-below-in-Neighbours : goal.returns-in_err-below-in-Neighbours
+returns-in_err-below-in-Neighbours c =
+    let a = c.args in
+    let x = a.arguments in
+    refusing a.suite.now x.read x.write x.name x.value a.out.now a.answer.now a.operation _ c.in-Neighbours.is c.from_residual-in_err-below-in-Neighbours.result _
+    c.from_residual-in_err-below-in-Neighbours.ensures.1 c.in_err-below-in-Neighbours.ensures
+
+pub returns-in_ok-below-in-Neighbours : goal.returns-in_ok-below-in-Neighbours
+unfolding numbers_of
+returns-in_ok-below-in-Neighbours c =
+    let a = c.args in
+    let x = a.arguments in
+    asking a.suite.now x.read x.write x.name x.value a.out.now a.answer.now a.operation _ c.in-Neighbours.is
+    _ _ _ refl a.image.now refl c.in_ok-below-in-Neighbours.ensures c.requires.1
+    c.kept-in-Neighbours.ensures

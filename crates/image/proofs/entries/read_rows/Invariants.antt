@@ -1,11 +1,6 @@
--- `read_rows` puts entry after entry into the tile and counts them at the end, or ends with the first fault.
-use Prim.Native.Nat.{◌-◌}
-use Rattle.tile.specs.Lent.{tile_in}
+-- `read_rows` puts entry after entry into the member and counts them at the end, or ends with the first fault.
 use Rattle.image.proofs.Rows.{RowsSoFar}
 use Rattle.image.proofs.entries.read_rows.Given as goal
 
 abbrev pub invariant-loop-i : goal.invariant-loop-i
-invariant-loop-i l = RowsSoFar l.bytes l.count l.low l.at (tile_in l.tile) l.next l.lowest l.i
-
-abbrev pub decreases-loop-i : goal.decreases-loop-i
-decreases-loop-i l = l.count - l.i
+invariant-loop-i l = RowsSoFar l.bytes l.count l.low l.at l.member l.next l.lowest l.i

@@ -1,72 +1,48 @@
--- `read_members` reads member after member into the tiles, or ends with the first fault.
+-- `read_members` reads member after member into the members, or ends with the first fault.
 use native.Mathlib.Omega.{arith}
-use mathlib.Core.Path.{sym, ap, subst, ◌∙◌}
-use mathlib.Core.List.{map}
-use Prim.Native.Nat.{◌+◌}
+use lib.ListN.{length}
+use Rattle.std.proofs.lemmas.Result.{err_from_is_err_and}
 use Rattle.member.specs.Tile.{fresh_tile}
-use Rattle.tile.specs.Lent.{tile_in}
 use Rattle.suite.specs.Outcome.{number_of}
 use Rattle.image.specs.Reader.{read_member}
-use Rattle.image.specs.Steps.{placed_of, ends_by}
-use Rattle.image.specs.declared.reader.Place.{Place}
-use Rattle.image.proofs.Reading.{places-start}
-use Rattle.image.proofs.Tiles.{tiles-next, tiles_more, tiles-fault, tiles-end}
+use Rattle.image.proofs.Reading.{places-start, places-next, places-more, places-fault, places-end}
 use Rattle.image.proofs.reader.read_members.Goals as goal
 
-pub loop-i-init : goal.loop-i-init
-loop-i-init c =
-    let a = c.args in
-    let q = c.requires in (
-      places-start (read_member a.bytes.now 20) fresh_tile a.frame.count a.at q.1.0 (map tile_in a.lent.now) q.1.1,
+pub loop-member-init : goal.loop-member-init
+loop-member-init c =
+    let a = c.args in (
+      places-start (read_member a.bytes.now 20) fresh_tile (length a.members.now) a.at a.members.now c.requires.1.1,
       omega arith,
     )
 
-pub offset_bounds-lent-i : goal.offset_bounds-lent-i
-offset_bounds-lent-i c = omega arith
-
-pub bounds-lent-i : goal.bounds-lent-i
-bounds-lent-i c = omega arith
-
-pub read_member-place-requires : goal.read_member-place-requires
-read_member-place-requires c =
+pub read_member-requires : goal.read_member-requires
+read_member-requires c =
     let a = c.args in
-    let l = c.loop-i in
-    (omega arith, tiles-next a.bytes.now a.frame a.at c.requires.1.0 l.lent l.next l.i l.invariant.0 c.loop-i-test.true)
+    let l = c.loop-member in
+    (omega arith, places-next (read_member a.bytes.now 20) fresh_tile (length a.members.now) a.at l.members l.next l.member-index l.invariant.0 _ (omega arith))
 
-pub overflow_add-i : goal.overflow_add-i
-overflow_add-i c = omega arith
-
-pub loop-i-smaller : goal.loop-i-smaller
-loop-i-smaller c = omega arith
-
-pub loop-i-preserved : goal.loop-i-preserved
-loop-i-preserved c =
+pub loop-member-preserved : goal.loop-member-preserved
+loop-member-preserved c =
     let a = c.args in
-    let l = c.loop-i in
-    let r = c.read_member-place in
-    let t = r.new.tile in (
-      tiles_more a.bytes.now a.frame a.at c.requires.1.0 l.lent l.next l.i l.invariant.0 c.in-At.after t
-          c.loop-i-test.true
-          (sym (ap (λ (x : Place). placed_of x (tile_in t)) c.in-At.is) ∙ r.ensures.0),
-      omega (arith, subst (λ (x : Place). ends_by x (l.next + 2718)) c.in-At.is r.ensures.1, l.invariant.1),
+    let l = c.loop-member in
+    let t = c.read_member.new.member in (
+      places-more (read_member a.bytes.now 20) fresh_tile (length a.members.now) a.at l.members l.next l.member-index l.invariant.0 c.in_ok-next.next t
+          (omega arith)
+          c.in_ok-next.ensures.0,
+      omega (arith, c.in_ok-next.ensures.1, l.invariant.1),
     )
 
-pub returns-in-No : goal.returns-in-No
-returns-in-No c =
+pub returns-in_err-next : goal.returns-in_err-next
+returns-in_err-next c =
     let a = c.args in
-    let l = c.loop-i in
-    let r = c.read_member-place in
-    let t = r.new.tile in (
-      tiles-fault a.bytes.now a.frame a.at c.requires.1.0 l.lent l.next l.i l.invariant.0 a.lent.now (number_of c.in-No.refusal)
-          c.loop-i-test.true
-          (sym (ap (λ (x : Place). placed_of x (tile_in t)) c.in-No.is) ∙ r.ensures.0),
-      tt,
-    )
+    let l = c.loop-member in
+    let p = err_from_is_err_and c.from_residual.result c.from_residual.ensures.1 in
+    rw (p.1, p.2) (places-fault (read_member a.bytes.now 20) fresh_tile (length a.members.now) a.at l.members l.next l.member-index l.invariant.0 (number_of c.in_err-next.field-0.0) (omega arith) c.in_err-next.ensures.0, tt)
 
 pub returns : goal.returns
 returns c =
     let a = c.args in
-    let l = c.loop-i in (
-      tiles-end a.bytes.now a.frame a.at c.requires.1.0 l.lent l.next l.i l.invariant.0 a.lent.now c.loop-i-test.false,
+    let l = c.loop-member in (
+      places-end (read_member a.bytes.now 20) fresh_tile (length a.members.now) a.at l.members l.next l.member-index l.invariant.0 (omega arith),
       omega (arith, l.invariant.1, l.invariant.0.so_far.few, c.requires),
     )

@@ -1,55 +1,36 @@
 -- `read_votes` reads vote after vote, or ends with the first fault.
 use native.Mathlib.Omega.{arith}
-use mathlib.Core.Path.{refl, sym, ◌∙◌}
-use Prim.Native.Nat.{◌+◌, ◌^◌, ◌<◌}
-use Rattle.fields.proofs.Reread.{read_range}
-use Rattle.image.specs.Reader.{field}
-use Rattle.image.proofs.Matching.{field_is, field_short}
-use Rattle.image.proofs.Reading.{places-start, places-more, places-fault, places-end, places-free}
+use mathlib.Core.Path.{◌≡◌, ap, ◌∙◌}
+use Prim.Native.Nat.{ℕ, ◌+◌, ◌*◌}
+use lib.ListN.{length}
+use Rattle.std.proofs.lemmas.Result.{err_from_is_err_and}
+use Rattle.suite.specs.Outcome.{number_of}
+use Rattle.image.specs.Reader.{took, field}
+use Rattle.image.proofs.Reading.{places-start, places-more, places-fault, places-end}
 use Rattle.image.proofs.reader.read_votes.Goals as goal
 
-pub loop-i-init : goal.loop-i-init
-loop-i-init c = let a = c.args in (places-start (field a.bytes.now 4) 0 a.count a.at (omega arith) _ refl, omega arith)
+pub loop-vote-init : goal.loop-vote-init
+loop-vote-init c = let a = c.args in (places-start (field a.bytes.now 4) 0 (length a.votes.now) a.at a.votes.now c.requires.1.1, omega arith)
 
-pub returns-in_default : goal.returns-in_default
-returns-in_default c =
+pub returns-in_err-vote : goal.returns-in_err-vote
+returns-in_err-vote c =
     let a = c.args in
-    let l = c.loop-i in
-    let e = field_short a.bytes.now 4 l.next (sym c.read.ensures ∙ c.in_default.is) in (
-      sym (places-fault (field a.bytes.now 4) 0 a.count a.at (omega arith) l.votes l.next l.i l.invariant.0 15 c.loop-i-test.true (sym e)),
-      (tt, places-free (field a.bytes.now 4) 0 a.count a.at (omega arith) l.votes l.next l.i l.invariant.0),
-    )
+    let l = c.loop-vote in
+    let p = err_from_is_err_and c.from_residual.result c.from_residual.ensures.1 in
+    rw (p.1, p.2)
+    (places-fault (field a.bytes.now 4) 0 (length a.votes.now) a.at l.votes l.next l.vote-index l.invariant.0 (number_of c.in_err-vote.field-0.0) (omega arith) c.in_err-vote.ensures.taken)
 
-pub overflow_cast-votes : goal.overflow_cast-votes
-overflow_cast-votes c =
-    let h : c.in-Is.vote < 2 ^ 4 = read_range _ _ 4 _ (sym c.read.ensures ∙ c.in-Is.is) in
-    omega arith
-
-pub overflow_add-next : goal.overflow_add-next
-overflow_add-next c = omega arith
-
-pub overflow_add-i : goal.overflow_add-i
-overflow_add-i c = omega arith
-
-pub loop-i-smaller : goal.loop-i-smaller
-loop-i-smaller c = omega arith
-
-pub loop-i-preserved : goal.loop-i-preserved
-loop-i-preserved c =
+pub loop-vote-preserved : goal.loop-vote-preserved
+loop-vote-preserved c =
     let a = c.args in
-    let l = c.loop-i in
-    let e = field_is a.bytes.now 4 l.next c.in-Is.vote (sym c.read.ensures ∙ c.in-Is.is) in (
-      places-more (field a.bytes.now 4) 0 a.count a.at (omega arith) l.votes l.next l.i l.invariant.0 (l.next + 4) c.in-Is.vote c.loop-i-test.true (sym e),
+    let l = c.loop-vote in (
+      places-more (field a.bytes.now 4) 0 (length a.votes.now) a.at l.votes l.next l.vote-index l.invariant.0 (l.next + 4) c.in_ok-vote.field-0 (omega arith) c.in_ok-vote.ensures.taken,
       omega arith,
     )
 
 pub returns : goal.returns
 returns c =
     let a = c.args in
-    let l = c.loop-i in (
-      sym (places-end (field a.bytes.now 4) 0 a.count a.at (omega arith) l.votes l.next l.i l.invariant.0 c.loop-i-test.false),
-      (
-        omega (arith, l.invariant.1, l.invariant.0.so_far.few, c.requires),
-        places-free (field a.bytes.now 4) 0 a.count a.at (omega arith) l.votes l.next l.i l.invariant.0,
-      ),
-    )
+    let l = c.loop-vote in
+    let e : a.at + 4 * length a.votes.now ≡ l.next = omega arith in
+    ap (λ (n : ℕ). took l.votes n) e ∙ places-end (field a.bytes.now 4) 0 (length a.votes.now) a.at l.votes l.next l.vote-index l.invariant.0 (omega arith)

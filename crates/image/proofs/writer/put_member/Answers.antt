@@ -6,7 +6,6 @@ use Prim.Native.Nat.{◌+◌}
 use lib.ListN.{length}
 use Rattle.fields.specs.Field.{append_of}
 use Rattle.member.specs.Tile.{entries}
-use Rattle.tile.specs.Lent.{tile_in}
 use Rattle.image.specs.Layout.{row_pieces, member_pieces, widths}
 use Rattle.image.proofs.Putting.{appended_field, appended_both}
 use Rattle.image.proofs.writer.put_member.Goals as goal
@@ -15,12 +14,12 @@ pub returns : goal.returns
 unfolding member_pieces widths
 returns c =
     let a = c.args in
-    let m = tile_in a.tile.now in
+    let m = a.member.now in
     let b₁ = c.append.new.bytes in
     let b₂ = c.append-2.new.bytes in
     let rows = c.put_rows in
-    let count = appended_field a.out.now b₁ a.at 6 (length (entries m)) (omega arith) (omega arith) (c.append.ensures ∙ ap (append_of a.out.now a.at 6) c.size-used.ensures.0) in
-    let low = appended_field b₁ b₂ (a.at + 6) 24 m.low (omega arith) (omega (arith, count.same_length)) (c.append-2.ensures ∙ ap (append_of b₁ (a.at + 6) 24) c.lowest.ensures) in (
+    let count = appended_field a.out.now b₁ a.at 6 (length (entries m)) (omega arith) (omega arith) (c.append.ensures ∙ ap (append_of a.out.now a.at 6) c.used.ensures.0) in
+    let low = appended_field b₁ b₂ (a.at + 6) 24 m.low (omega arith) (omega (arith, count.same_length)) (c.append-2.ensures ∙ ap (append_of b₁ (a.at + 6) 24) (c.from.ensures ∙ c.lowest_gap.ensures)) in (
       omega (arith, rows.ensures.0),
       (
         omega (arith, rows.ensures.1.0),

@@ -5,7 +5,6 @@ use Prim.Native.Nat.{ℕ, ◌+◌, ◌≤◌, ◌<◌}
 use lib.ListN.{length, get_or}
 use Rattle.member.specs.Tile.{none, entries}
 use Rattle.member.specs.declared.Row.{Row}
-use Rattle.tile.specs.Lent.{tile_in}
 use Rattle.image.specs.Layout.{row_pieces}
 use Rattle.image.specs.Writer.{Appended}
 use Rattle.image.proofs.Lengths.{row_widths}
@@ -21,24 +20,15 @@ put_row-requires c =
     let same = l.invariant.0.put.same_length in
     omega arith
 
-pub overflow_add-next : goal.overflow_add-next
-overflow_add-next c = omega arith
-
-pub overflow_add-i : goal.overflow_add-i
-overflow_add-i c = omega arith
-
-pub loop-i-smaller : goal.loop-i-smaller
-loop-i-smaller c = omega arith
-
 pub loop-i-preserved : goal.loop-i-preserved
 loop-i-preserved c =
     let a = c.args in
     let l = c.loop-i in
-    let m = tile_in a.tile.now in
+    let m = a.member.now in
     let p = c.put_row in
-    let h : l.i < length (entries m) = omega (arith, c.size-used.ensures.0, c.loop-i-test.true) in (
+    let h : l.i < length (entries m) = omega (arith, c.used-i-end.ensures.0, c.loop-i-test.true) in (
       put-more (row_pieces 20) (entries m) a.out.now a.at none l.out p.new.out l.next (l.next + 84) l.i l.invariant.0 h
-          (subst (λ (r : Row). Appended l.out l.next (row_pieces 20 r) p.new.out) c.entry-row.ensures p.ensures)
+          (subst (λ (r : Row). Appended l.out l.next (row_pieces 20 r) p.new.out) c.entry.ensures p.ensures)
           (ap (λ (k : ℕ). l.next + k) (sym (row_widths 20 (get_or (entries m) l.i none)))),
       omega arith,
     )
@@ -48,7 +38,7 @@ shape_of-out c = c.loop-i.invariant.0.put.same_length
 
 pub returns : goal.returns
 returns c =
-    let m = c.args.tile.now in
-    let h : length (entries (tile_in m)) ≤ c.loop-i.i = omega (arith, c.size-used.ensures.0, c.loop-i-test.false) in
-    let e = put-end (row_pieces 20) (entries (tile_in m)) _ _ _ _ _ c.loop-i.invariant.0 h in
-    (e.0, (omega (arith, c.loop-i.invariant.1, c.loop-i.invariant.0.few, c.size-used.ensures), e.1))
+    let m = c.args.member.now in
+    let h : length (entries m) ≤ c.loop-i.i = omega (arith, c.used-i-end.ensures.0, c.loop-i-test.false) in
+    let e = put-end (row_pieces 20) (entries m) _ _ _ _ _ c.loop-i.invariant.0 h in
+    (e.0, (omega (arith, c.loop-i.invariant.1, c.loop-i.invariant.0.few, c.used-i-end.ensures), e.1))

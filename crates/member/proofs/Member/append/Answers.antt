@@ -1,6 +1,6 @@
 -- `append` puts a row in above the last where the three tests hold.
 use mathlib.Core.Path.{sym, ◌∙◌}
-use Rattle.member.proofs.Writes.{append-full, append_low, append-out, append-above}
+use Rattle.member.proofs.Writes.{append-above}
 use Rattle.member.proofs.Member.append.Goals as goal
 
 pub returns-then-in_range : goal.returns-then-in_range
@@ -11,23 +11,3 @@ returns-then-in_range c =
     c.insert.ensures
     ∙ append-above a.self a.row n.result n.ensures.0 c.if-top-lt-SLOTS.true q.result q.ensures c.if-end_below-row.true
     (sym c.in_range.ensures ∙ c.if-in_range.true)
-
-pub returns-else-in_range : goal.returns-else-in_range
-returns-else-in_range c =
-    let a = c.args in
-    let n = c.used-top in
-    let q = c.end_below in
-    append-out a.self a.row n.result n.ensures.0 c.if-top-lt-SLOTS.true q.result q.ensures c.if-end_below-row.true
-    (sym c.in_range.ensures ∙ c.if-in_range.false)
-
-pub returns-else-end_below-row : goal.returns-else-end_below-row
-returns-else-end_below-row c =
-    let a = c.args in
-    let n = c.used-top in
-    let q = c.end_below in
-    append_low a.self a.row n.result n.ensures.0 c.if-top-lt-SLOTS.true q.result q.ensures c.if-end_below-row.false
-
-pub returns-else-top-lt-SLOTS : goal.returns-else-top-lt-SLOTS
-returns-else-top-lt-SLOTS c =
-    let a = c.args in
-    append-full a.self a.row c.used-top.result c.used-top.ensures.0 c.if-top-lt-SLOTS.false

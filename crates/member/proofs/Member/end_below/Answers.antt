@@ -8,17 +8,17 @@ use Rattle.member.proofs.Member.end_below.Goals as goal
 -- src/search.rt:92:40
 pub offset_bounds-self-at : goal.offset_bounds-self-at
 offset_bounds-self-at c =
-    let m = c.args.self in
+    let m = c.args.self.now in
     let e : length m.rows ≡ 32 = search (rules, length_of_map) in
     omega (arith, entries_le m 32 e)
 
 -- src/search.rt:92:40
 pub bounds-self-at : goal.bounds-self-at
 bounds-self-at c =
-    let m = c.args.self in
+    let m = c.args.self.now in
     let e : length m.rows ≡ 32 = search (rules, length_of_map) in
     omega (arith, entries_le m 32 e)
 
 -- src/search.rt:88:5
 pub returns-else-at-eq0 : goal.returns-else-at-eq0
-returns-else-at-eq0 c = c.end_of.ensures ∙ end_below_at c.args.self c.args.at (omega arith) c.requires
+returns-else-at-eq0 c = c.end_of.ensures ∙ end_below_at c.args.self.now c.args.at (omega arith) c.requires

@@ -1,65 +1,51 @@
 -- `fits_coalesce` counts the entries that a coalescing leaves.
-use mathlib.Core.Path.{◌≡◌}
-use borrow.Author.Rules.{rules}
 use native.Mathlib.Omega.{arith}
-use lib.ListN.{length}
 use Rattle.member.specs.Tile.{entries}
 use Rattle.member.specs.SearchLaws.{end_cut, below-le-length, past-le-length}
-use Rattle.member.proofs.Rows.{length_of_map, entries_le}
-use Rattle.member.proofs.Fits.{own_low, own_name, own-high, fits-order, fits-high, fits_sum}
+use Rattle.member.proofs.Fits.{fits-order}
+use Rattle.member.proofs.Removal.{room, fits_two}
 use Rattle.member.proofs.Member.fits_coalesce.Goals as goal
-use Rattle.member.proofs.Member.fits_coalesce.Goals.{then-p-ne0, else-p-ne0, then-s-lt-HIGH, else-s-lt-HIGH}
 
 pub returns-then-s-p : goal.returns-then-s-p
-returns-then-s-p c = fits-order c.args.self c.args.p c.args.s c.if-s-p.true
-
-pub returns-then-p-ge-HIGH : goal.returns-then-p-ge-HIGH
-returns-then-p-ge-HIGH c =
+returns-then-s-p c =
     let a = c.args in
-    let e : length a.self.rows ≡ 32 = search (rules, length_of_map) in
-    fits-high a.self a.p a.s c.if-s-p.false (omega arith) (entries_le a.self 32 e)
+    fits-order a.self.now a.p a.s c.if-s-p.true
 
-pub overflow_sub-after : goal.overflow_sub-after
-overflow_sub-after c =
+pub returns-then-n-le-SLOTS : goal.returns-then-n-le-SLOTS
+returns-then-n-le-SLOTS c =
     let a = c.args in
-    let below = below-le-length (end_cut a.p) (entries a.self) in
-    let past = past-le-length (end_cut a.s) (entries a.self) in
-    omega arith
+    fits_two a.self.now a.p a.s c.used-n.result c.if-s-p.false c.used-n.ensures.0 c.if-n-le-SLOTS.true
 
-pub overflow_add-after : goal.overflow_add-after
-overflow_add-after c =
+pub overflow_add-mid : goal.overflow_add-mid
+overflow_add-mid c =
     let a = c.args in
-    let below = below-le-length (end_cut a.p) (entries a.self) in
-    let past = past-le-length (end_cut a.s) (entries a.self) in
-    omega arith
+    omega (arith, below-le-length (end_cut a.p) (entries a.self.now))
 
-pub overflow_add-after-then-p-ne0 : goal.overflow_add-after-then-p-ne0
-overflow_add-after-then-p-ne0 c =
+pub overflow_add-end : goal.overflow_add-end
+overflow_add-end c =
     let a = c.args in
-    let below = below-le-length (end_cut a.p) (entries a.self) in
-    let past = past-le-length (end_cut a.s) (entries a.self) in
-    omega arith
+    omega (arith, below-le-length (end_cut a.p) (entries a.self.now))
 
-pub overflow_add-after-then-s-lt-HIGH : goal.overflow_add-after-then-s-lt-HIGH
-overflow_add-after-then-s-lt-HIGH c =
+pub overflow_sub-result : goal.overflow_sub-result
+overflow_sub-result c =
     let a = c.args in
-    let below = below-le-length (end_cut a.p) (entries a.self) in
-    let past = past-le-length (end_cut a.s) (entries a.self) in
-    elim c.if-p-ne0.branch [ then-p-ne0 w ↦ omega arith | else-p-ne0 w ↦ omega arith ]
+    omega (arith, past-le-length (end_cut a.s) (entries a.self.now))
+
+pub overflow_add-result : goal.overflow_add-result
+overflow_add-result c =
+    let a = c.args in
+    let m = a.self.now in
+    omega (arith, below-le-length (end_cut a.p) (entries m), past-le-length (end_cut a.s) (entries m))
 
 pub returns : goal.returns
 returns c =
     let a = c.args in
-    let below = below-le-length (end_cut a.p) (entries a.self) in
-    let past = past-le-length (end_cut a.s) (entries a.self) in
-    fits_sum a.self a.p a.s c.if-s-p.false c.if-s-lt-HIGH.after
-    (elim c.if-p-ne0.branch [
-      | then-p-ne0 v ↦ elim c.if-s-lt-HIGH.branch [
-        | then-s-lt-HIGH w ↦ omega (arith, own_name a.p (omega arith) (omega arith), own_name a.s (omega arith) (omega arith))
-        | else-s-lt-HIGH w ↦ omega (arith, own_name a.p (omega arith) (omega arith), own-high a.s (omega arith))
-      ]
-      | else-p-ne0 v ↦ elim c.if-s-lt-HIGH.branch [
-        | then-s-lt-HIGH w ↦ omega (arith, own_low a.p (omega arith), own_name a.s (omega arith) (omega arith))
-        | else-s-lt-HIGH w ↦ omega (arith, own_low a.p (omega arith), own-high a.s (omega arith))
-      ]
-    ])
+    room {m = a.self.now} {p = a.p} {s = a.s}
+    (record {
+      order = c.if-s-p.false;
+      all = c.used-n.ensures.0;
+      below = c.below_end-from.ensures;
+      past = c.past_end-to.ensures;
+      first = c.rows_of.ensures.0;
+      last = c.rows_of-2.ensures.0;
+    })

@@ -8,6 +8,3 @@ use Rattle.member.proofs.Member.offer_below.Given as goal
 
 abbrev pub invariant-loop-i : goal.invariant-loop-i
 invariant-loop-i l = (length (entries l.self) ≤ 32) × (l.i ≤ length (entries l.self)) × (offer_below_of l.self l.name l.k l.v ≡ last_offer l.k l.v (bare_offer 0 l.k) (take l.i (entries l.self)))
-
-abbrev pub decreases-loop-i : goal.decreases-loop-i
-decreases-loop-i l = l.i

@@ -1,40 +1,18 @@
--- `rest_is_none` goes up through the unused places. The invariant: the answer is that of the places from i on.
-use borrow.Author.Rules.{rules}
-use native.Mathlib.Omega.{arith}
-use mathlib.Core.Path.{◌≡◌, ◌∙◌, sym}
-use mathlib.Core.Bool.{true, false}
-use Rattle.member.proofs.Rows.{length_of_map}
-use Rattle.member.proofs.Soundness.{none_from, none_step, none_end}
+-- `rest_is_none` goes over the places past the entries.
+use mathlib.Core.Path.{◌∙◌}
+use Prim.Native.Nat.{◌-◌}
+use lib.ListN.{length, take, drop}
+use Rattle.std.proofs.Common.{rules, tests}
+use Rattle.std.proofs.lemmas.Iterator.{YieldsList-from_slice}
+use Rattle.std.proofs.lemmas.Iterator.Search.{all_from_yields_List}
+use Rattle.member.specs.Sound.{is_none}
+use Rattle.member.proofs.Soundness.{none_past}
 use Rattle.member.proofs.Member.rest_is_none.Goals as goal
-
-pub loop-i-init : goal.loop-i-init
-loop-i-init c = (search (rules, length_of_map), none_from c.args.self _ c.used-i.ensures.0)
-
-pub offset_bounds-self-i : goal.offset_bounds-self-i
-offset_bounds-self-i c = omega arith
-
-pub bounds-self-i : goal.bounds-self-i
-bounds-self-i c = omega arith
-
-pub overflow_add-i : goal.overflow_add-i
-overflow_add-i c = omega arith
-
-pub loop-i-smaller : goal.loop-i-smaller
-loop-i-smaller c = omega arith
-
-pub loop-i-preserved : goal.loop-i-preserved
-loop-i-preserved c =
-    let l = c.args.self.rows in
-    let b : true ≡ _ = sym c.if-is_none.true ∙ c.is_none.ensures in
-    (c.loop-i.invariant.0, c.loop-i.invariant.1 ∙ none_step l _ true (omega arith) b)
-
-pub returns-else-is_none : goal.returns-else-is_none
-returns-else-is_none c =
-    let l = c.args.self.rows in
-    let b : false ≡ _ = sym c.if-is_none.false ∙ c.is_none.ensures in
-    sym (c.loop-i.invariant.1 ∙ none_step l _ false (omega arith) b)
 
 pub returns : goal.returns
 returns c =
-    let l = c.args.self.rows in
-    sym (c.loop-i.invariant.1 ∙ none_end l c.loop-i.i (omega arith))
+    let m = c.args.self.now in
+    let n = c.used.result in
+    all_from_yields_List is_none _ _ _ c.all.ensures.ran
+    (YieldsList-from_slice (take (length m.rows - n) (drop n m.rows)) cc) (λ x b q k. search (rules, tests))
+    ∙ none_past m n c.used.ensures.0

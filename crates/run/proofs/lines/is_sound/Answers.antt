@@ -1,18 +1,13 @@
 -- `run::lines::is_sound`: only a suite that was accepted is judged.
-use mathlib.Core.Path.{◌≡◌, ◌∙◌}
-use mathlib.Core.Bool.{Bool, true, false, not, ◌&&◌}
-use borrow.Author.Rules.{rules}
+use Rattle.std.proofs.Common.{◌∙◌, sym, rules}
+use Rattle.std.proofs.Math.Bool.{not-not}
 use Rattle.run.specs.Course.{unsound}
 use Rattle.run.proofs.lines.is_sound.Goals as goal
 
-judged : (made sound : Bool) → made ≡ true → sound ≡ not (made && not sound)
-judged made true e = rw e
-judged made false e = rw e
-
-pub returns-then-made : goal.returns-then-made
+pub returns-in-Some : goal.returns-in-Some
 unfolding unsound
-returns-then-made c = c.is_sound.ensures ∙ judged _ _ c.if-made.true
+returns-in-Some c = rw c.in-Some.is (c.is_sound.ensures ∙ sym (not-not _))
 
-pub returns : goal.returns
+pub returns-in-None : goal.returns-in-None
 unfolding unsound
-returns c = search rules
+returns-in-None c = search rules

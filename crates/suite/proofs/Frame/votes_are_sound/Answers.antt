@@ -1,63 +1,37 @@
--- `votes_are_sound` stops at the first vote too large for its place. The invariant: the places from i on decide as all do.
-use mathlib.Core.Logic.{inl, inr}
-use mathlib.Core.Path.{◌≡◌, sym, ◌∙◌}
-use native.Mathlib.Nat.{sub-zero}
-use native.Mathlib.Omega.{arith}
-use borrow.Author.Rules.{rules}
-use lib.ListN.{length-take, length}
-use Rattle.suite.specs.Suite.{small_vote, no_vote}
-use Rattle.suite.proofs.Used.{used_from_lem, used-end}
-use Rattle.suite.proofs.Votes.{Most, votes_stop, votes_on}
+-- `votes_are_sound` tests the votes that are counted, then the unused ones.
+use Rattle.std.proofs.Common.{◌≡◌, ◌&&◌, ◌-◌, ap, sym, ◌∙◌, length, take, drop, rules, arith, length-drop, tests}
+use Rattle.std.proofs.lemmas.Iterator.{YieldsList-from_slice}
+use Rattle.std.proofs.lemmas.Iterator.Search.{all_from_yields_List}
+use Rattle.suite.specs.Sets.{all}
+use Rattle.suite.specs.Suite.{ballots_in, small_vote, no_vote}
+use lib.Seq.{take_all}
+use Rattle.suite.proofs.Asking.{counted, uncounted}
+use Rattle.suite.proofs.Sets.{all_list}
 use Rattle.suite.proofs.Frame.votes_are_sound.Goals as goal
-use Rattle.suite.proofs.Frame.votes_are_sound.Goals.{Joined-i-n, then-i-n, else-i-n}
+use Rattle.suite.proofs.Frame.votes_are_sound.Goals.{After-all}
 
-pub loop-i-init : goal.loop-i-init
-loop-i-init c = (c.size-n.ensures.0, omega arith, rw sub-zero (used_from_lem small_vote no_vote c.args.self.count c.args.self.votes))
+first : (c : After-all) → c.all.result ≡ all small_vote (ballots_in c.args.self)
+first c =
+    let f = c.args.self in
+    let n = c.size-n in
+    let l = take n.result f.votes in
+    all_from_yields_List small_vote _ _ _ c.all.ensures.ran (YieldsList-from_slice l cc) (λ x b q k. search (rules, tests))
+    ∙ all_list small_vote l
+    ∙ ap (all small_vote) (counted f.count n.result f.votes n.ensures.0)
 
-pub offset_bounds-self-i : goal.offset_bounds-self-i
-offset_bounds-self-i c = omega arith
+pub returns-then-all : goal.returns-then-all
+returns-then-all c =
+    let f = c.args.self in
+    let n = c.size-n in
+    let l = take (length f.votes - n.result) (drop n.result f.votes) in
+    let rest : l ≡ drop n.result f.votes = take_all (length f.votes - n.result) (drop n.result f.votes) (omega (arith, length-drop n.result f.votes)) in
+    all_from_yields_List no_vote _ _ _ c.all-then-all.ensures.ran (YieldsList-from_slice l cc) (λ x b q k. search (rules, tests))
+    ∙ all_list no_vote l
+    ∙ ap (all no_vote) (rest ∙ uncounted f.count n.result f.votes n.ensures.0)
+    ∙ ap (λ b. b && all no_vote (drop f.count f.votes)) (sym c.if-all.true ∙ first (goal.at.returns-then-all c).After-all)
 
-pub bounds-self-i : goal.bounds-self-i
-bounds-self-i c = omega arith
-
--- what may stand in this place
-most : (c : Joined-i-n) → Most c.args.self.count c.loop-i.i c.if-i-n.most
-most c =
-    let s = c.args.self in
-    let n : length s.votes ≡ 8 = search rules in
-    elim c.if-i-n.branch [
-      | then-i-n w ↦ inl (omega (arith, length-take s.count s.votes), w.most-is)
-      | else-i-n w ↦ inr (omega (arith, length-take s.count s.votes), w.most-is)
-    ]
-
-pub returns-then-most-self : goal.returns-then-most-self
-returns-then-most-self c =
-    let s = c.args.self in
-    let n : length s.votes ≡ 8 = search rules in
-    let i = c.loop-i.i in
-    sym
-    (c.loop-i.invariant.2
-    ∙ votes_stop s.count i s.votes c.if-i-n.most (omega arith) (most (goal.at.returns-then-most-self c).Joined-i-n) c.if-most-self.true)
-
-pub overflow_add-i : goal.overflow_add-i
-overflow_add-i c = omega arith
-
-pub loop-i-smaller : goal.loop-i-smaller
-loop-i-smaller c = omega arith
-
-pub loop-i-preserved : goal.loop-i-preserved
-loop-i-preserved c =
-    let s = c.args.self in
-    let n : length s.votes ≡ 8 = search rules in
-    let i = c.loop-i.i in (
-      omega arith,
-      omega arith,
-      c.loop-i.invariant.2
-          ∙ votes_on s.count i s.votes c.if-i-n.most (omega arith) (most (goal.at.loop-i-preserved c).Joined-i-n) c.if-most-self.false,
-    )
-
-pub returns : goal.returns
-returns c =
-    let s = c.args.self in
-    let n : length s.votes ≡ 8 = search rules in
-    sym (c.loop-i.invariant.2 ∙ used-end small_vote no_vote s.count c.loop-i.i s.votes (omega arith))
+pub returns-else-all : goal.returns-else-all
+returns-else-all c =
+    let f = c.args.self in
+    let e = first (goal.at.returns-else-all c).After-all in
+    c.if-all.false ∙ ap (λ b. b && all no_vote (drop f.count f.votes)) (sym c.if-all.false ∙ e)

@@ -1,15 +1,10 @@
 -- `ask` fills the table. The invariant: up to place i the table is the target, and from there on the target is what is left to ask.
-use mathlib.Core.Path.{◌≡◌}
-use Prim.Native.Nat.{◌≤◌, ◌-◌}
-use lib.ListN.{length}
-use Rattle.suite.specs.Suite.{tiles}
-use Rattle.suite.specs.Calls.{answer_to}
-use Rattle.suite.specs.Rows.{row_of}
+use Rattle.std.proofs.Common.{List, ℕ}
+use Rattle.member.specs.declared.Member.{Member}
+use Rattle.suite.specs.Asking.{AnswersAs}
 use Rattle.suite.proofs.Asking.{Asked}
 use Rattle.suite.proofs.Suite.ask.Given as goal
 
 abbrev pub invariant-loop-i : goal.invariant-loop-i
-invariant-loop-i l = (l.n ≡ length (tiles l.self)) × (l.n ≤ 8) × (l.i ≤ l.n) × Asked (λ m. row_of (answer_to l.question m)) l.self l.set l.table l.left l.i
-
-abbrev pub decreases-loop-i : goal.decreases-loop-i
-decreases-loop-i l = l.n - l.i
+invariant-loop-i g l =
+    (row : Member → List ℕ) → AnswersAs g.F.Fn l.answer row → Asked row l.member-items l.set l.table l.left l.i

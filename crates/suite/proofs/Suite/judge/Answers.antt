@@ -9,4 +9,4 @@ pub returns : goal.returns
 returns c =
     let a = c.args in
     c.judge.ensures
-    ∙ ap (λ (f : Frame). judged (ballots_in f) f.read a.needed a.name a.value a.read a.write) c.frame-frame.ensures
+    ∙ ap (λ (f : Frame). judged (ballots_in f) f.read a.needed a.name a.value a.read a.write) c.frame.ensures

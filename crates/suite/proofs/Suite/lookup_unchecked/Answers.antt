@@ -1,39 +1,26 @@
 -- `lookup_unchecked` is the lookup of the definitions.
 use mathlib.Core.Path.{◌≡◌}
-use lib.ListN.{length}
-use Rattle.suite.specs.Accepted.{one_vote_each, judged_fine}
-use Rattle.suite.specs.Suite.{ballots, tiles}
-use Rattle.member.proofs.Rows.{length_of_map}
-use Rattle.suite.specs.Calls.{judged}
-use Rattle.suite.proofs.Calling.{within, fine_is, lookup-no, lookup-done}
 use borrow.Author.Rules.{rules}
+use lib.ListN.{length}
+use Rattle.std.proofs.lemmas.Result.{err_from_is_err_and}
+use Rattle.member.proofs.Rows.{length_of_map}
+use Rattle.suite.proofs.Calling.{Passed, passed_all, lookup-no, lookup-done}
 use Rattle.suite.proofs.Suite.lookup_unchecked.Goals as goal
-use Rattle.suite.proofs.Suite.lookup_unchecked.Goals.{Start}
+use Rattle.suite.proofs.Suite.lookup_unchecked.Goals.{In_ok-judge}
 
--- each member has its votes
-each_of : (c : Start) → length (tiles c.args.self) ≡ length (ballots c.args.self)
-each_of c =
-    let h : length c.args.self.members ≡ 8 = search (rules, length_of_map) in
-    let k : length c.args.self.votes ≡ 8 = search rules in
-    one_vote_each c.args.self h k
+-- none of the refusals 5 to 9
+fine : (c : In_ok-judge) → Passed c.args.self.now 0 c.args.name 0 c.args.set 0
+fine c =
+    let h : length c.args.self.now.members ≡ 8 = search (rules, length_of_map) in
+    let k : length c.args.self.now.votes ≡ 8 = search rules in
+    passed_all c.args.self.now 0 c.args.name 0 c.args.set 0 h k c.in_ok-judge.ensures
 
-pub returns-in-No : goal.returns-in-No
-returns-in-No c =
+pub returns-in_err-judge : goal.returns-in_err-judge
+returns-in_err-judge c =
     let a = c.args in
-    lookup-no a.self a.set 0 a.name 0 c.judge-judged.result c.in-No.is c.judge-judged.ensures
-
-pub newest-requires : goal.newest-requires
-newest-requires c =
-    let s = c.args.self in
-    let each = each_of (goal.at.newest-requires c).Start in
-    let a = c.args in
-    let f = fine_is (judged (ballots s) s.read 0 a.name 0 a.set 0) c.judge-judged.result c.in_default.is c.judge-judged.ensures in
-    within s each a.set (judged_fine (ballots s) s.read 0 a.name 0 a.set 0 f).reads
+    let p = err_from_is_err_and c.from_residual.result c.from_residual.ensures.1 in
+    rw (p.1, p.2) (lookup-no a.self.now a.set 0 a.name 0 c.in_err-judge.field-0.0 c.in_err-judge.ensures)
 
 pub returns : goal.returns
 returns c =
-    let s = c.args.self in
-    let each = each_of (goal.at.returns c).Start in
-    let a = c.args in
-    let f = fine_is (judged (ballots s) s.read 0 a.name 0 a.set 0) c.judge-judged.result c.in_default.is c.judge-judged.ensures in
-    lookup-done s each a.set a.name f c.newest.result c.newest.ensures
+    let a = c.args in lookup-done a.self.now a.set a.name (fine (goal.at.returns c).In_ok-judge) c.newest.result c.newest.ensures

@@ -1,45 +1,34 @@
 -- `neighbours_unchecked` is the neighbour query of the definitions.
 use mathlib.Core.Path.{◌≡◌}
+use borrow.Author.Rules.{rules}
 use native.Mathlib.Omega.{arith}
 use lib.Count.{ones-le}
 use lib.ListN.{length}
-use Rattle.suite.specs.Accepted.{one_vote_each, judged_fine}
-use Rattle.suite.specs.Suite.{ballots, tiles}
+use Rattle.std.proofs.lemmas.Result.{err_from_is_err_and}
 use Rattle.member.proofs.Rows.{length_of_map}
-use Rattle.suite.specs.Calls.{judged}
-use Rattle.suite.proofs.Calling.{within, fine_is, neighbours-no, neighbours-done}
-use borrow.Author.Rules.{rules}
+use Rattle.suite.proofs.Calling.{Passed, passed_all, neighbours-no, neighbours-done}
 use Rattle.suite.proofs.Suite.neighbours_unchecked.Goals as goal
-use Rattle.suite.proofs.Suite.neighbours_unchecked.Goals.{Start}
+use Rattle.suite.proofs.Suite.neighbours_unchecked.Goals.{In_ok-judge}
 
--- each member has its votes
-each_of : (c : Start) → length (tiles c.args.self) ≡ length (ballots c.args.self)
-each_of c =
-    let h : length c.args.self.members ≡ 8 = search (rules, length_of_map) in
-    let k : length c.args.self.votes ≡ 8 = search rules in
-    one_vote_each c.args.self h k
+-- none of the refusals 5 to 9
+fine : (c : In_ok-judge) → Passed c.args.self.now 0 c.args.name 0 c.args.set 0
+fine c =
+    let h : length c.args.self.now.members ≡ 8 = search (rules, length_of_map) in
+    let k : length c.args.self.now.votes ≡ 8 = search rules in
+    passed_all c.args.self.now 0 c.args.name 0 c.args.set 0 h k c.in_ok-judge.ensures
 
-pub returns-in-No : goal.returns-in-No
-returns-in-No c =
+pub returns-in_err-judge : goal.returns-in_err-judge
+returns-in_err-judge c =
     let a = c.args in
-    neighbours-no a.self a.set 0 a.name 0 c.judge-judged.result c.in-No.is c.judge-judged.ensures
+    let p = err_from_is_err_and c.from_residual.result c.from_residual.ensures.1 in
+    rw (p.1, p.2) (neighbours-no a.self.now a.set 0 a.name 0 c.in_err-judge.field-0.0 c.in_err-judge.ensures)
 
 pub survey-found-requires : goal.survey-found-requires
-survey-found-requires c =
-    let s = c.args.self in
-    let each = each_of (goal.at.survey-found-requires c).Start in
-    let a = c.args in
-    let f = fine_is (judged (ballots s) s.read 0 a.name 0 a.set 0) c.judge-judged.result c.in_default.is c.judge-judged.ensures in
-    within s each a.set (judged_fine (ballots s) s.read 0 a.name 0 a.set 0 f).reads
+survey-found-requires c = (fine c).reads
 
 pub overflow_mul-result : goal.overflow_mul-result
-overflow_mul-result c =
-    let a = c.args in omega (arith, ones-le 32 a.set c.ranges.set.fits)
+overflow_mul-result c = omega (arith, ones-le 32 c.args.set c.ranges.set.fits)
 
 pub returns : goal.returns
 returns c =
-    let s = c.args.self in
-    let each = each_of (goal.at.returns c).Start in
-    let a = c.args in
-    let f = fine_is (judged (ballots s) s.read 0 a.name 0 a.set 0) c.judge-judged.result c.in_default.is c.judge-judged.ensures in
-    neighbours-done s each a.set a.name f c.survey-found.result c.survey-found.ensures
+    let a = c.args in neighbours-done a.self.now a.set a.name (fine (goal.at.returns c).In_ok-judge) c.survey-found.result c.survey-found.ensures

@@ -1,44 +1,31 @@
 -- `put` gives the name the version after the one found, unless that is too large or a member has no place.
-use mathlib.Core.Path.{◌≡◌, refl, sym, ◌∙◌}
-use mathlib.Core.Bool.{true, false}
-use Prim.Native.Nat.{◌+◌}
-use native.Mathlib.Omega.{arith}
-use lib.Count.{ones, ones-le}
+use Rattle.std.proofs.Common.{◌≡◌, ◌+◌, refl, sym, ◌∙◌, rules, arith}
+use lib.Count.{ones}
 use Rattle.member.specs.Change.{fits_write}
-use Rattle.suite.specs.Calls.{all_fit, asked_of}
-use Rattle.suite.specs.declared.Question.TheVariants as question
-use Rattle.suite.specs.declared.Effect.TheVariants as effect
-use Rattle.suite.proofs.Surveys.{fits-asked}
-use Rattle.suite.proofs.Calling.{granted-over, granted-full, granted-done}
+use Rattle.suite.specs.Calls.{asked_of, all_fit, effect_of}
+use Rattle.suite.specs.Question as question
+use Rattle.suite.specs.Effect as effect
+use Rattle.suite.proofs.Calling.{granted-full, granted-done}
+use Rattle.suite.proofs.Surveys.{fit_lem}
 use Rattle.suite.proofs.Suite.put.Goals as goal
+use Rattle.suite.proofs.Suite.put.Goals.{After-all_fit}
 
-pub returns-then-version-ge-LARGEST : goal.returns-then-version-ge-LARGEST
-returns-then-version-ge-LARGEST c =
+-- whether the name fits all members of the write set
+fit : (c : After-all_fit) → all_fit (asked_of c.args.self.now c.args.write (question.FitsWrite c.args.name)) ≡ c.all_fit.result
+fit c =
     let a = c.args in
-    granted-over a.self a.write (a.version + 1) (ones a.read + ones a.write) (question.FitsWrite a.name) (effect.Write a.name (a.version + 1) a.value)
-    (omega arith) c.refused.result c.refused.ensures
+    sym (c.all_fit.ensures (λ m. fits_write m a.name) (λ m b k. search rules) ∙ fit_lem (λ m. fits_write m a.name) a.self.now a.write (question.FitsWrite a.name) (λ m. refl))
 
-pub overflow_add-result : goal.overflow_add-result
-overflow_add-result c =
+pub returns-then-not-all_fit : goal.returns-then-not-all_fit
+returns-then-not-all_fit c =
     let a = c.args in
-    omega (arith, ones-le 32 a.read c.ranges.read.fits, ones-le 32 a.write c.ranges.write.fits)
-
-pub returns-then-all_set : goal.returns-then-all_set
-returns-then-all_set c =
-    let a = c.args in
-    let fit = question.FitsWrite a.name in
-    let f : all_fit (asked_of a.self a.write fit) ≡ true =
-    sym (fits-asked a.self a.write c.requires fit (λ m. fits_write m a.name) (λ m. refl) c.ask-fits.result c.ask-fits.ensures)
-    ∙ sym c.all_set.ensures ∙ c.if-all_set.true in
-    granted-done a.self a.write (a.version + 1) (ones a.read + ones a.write) fit (effect.Write a.name (a.version + 1) a.value)
-    (omega arith) f c.change-self.result c.change-self.ensures
+    granted-full a.self.now a.write (a.version + 1) (ones a.read + ones a.write) (question.FitsWrite a.name) (effect.Write a.name (a.version + 1) a.value)
+    (omega arith) (fit (goal.at.returns-then-not-all_fit c).After-all_fit ∙ c.if-not-all_fit.true)
 
 pub returns : goal.returns
 returns c =
     let a = c.args in
-    let fit = question.FitsWrite a.name in
-    let f : all_fit (asked_of a.self a.write fit) ≡ false =
-    sym (fits-asked a.self a.write c.requires fit (λ m. fits_write m a.name) (λ m. refl) c.ask-fits.result c.ask-fits.ensures)
-    ∙ sym c.all_set.ensures ∙ c.if-all_set.false in
-    granted-full a.self a.write (a.version + 1) (ones a.read + ones a.write) fit (effect.Write a.name (a.version + 1) a.value)
-    (omega arith) f c.refused-2.result c.refused-2.ensures
+    let write = effect.Write a.name (a.version + 1) a.value in
+    granted-done a.self.now a.write (a.version + 1) (ones a.read + ones a.write) (question.FitsWrite a.name) write
+    (omega arith) (fit (goal.at.returns c).After-all_fit ∙ c.if-not-all_fit.false) c.change.new.self
+    (c.change.ensures (effect_of write) (λ m m' k. search rules))

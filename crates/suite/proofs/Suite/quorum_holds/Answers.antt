@@ -7,4 +7,4 @@ use Rattle.suite.proofs.Suite.quorum_holds.Goals as goal
 
 pub returns : goal.returns
 returns c =
-    c.quorum_holds.ensures ∙ ap (λ (f : Frame). quorum f.read f.write (total (ballots_in f))) c.frame-frame.ensures
+    c.quorum_holds.ensures ∙ ap (λ (f : Frame). quorum f.read f.write (total (ballots_in f))) c.frame.ensures

@@ -1,66 +1,36 @@
 -- `remove_unchecked` is the remove of the definitions.
-use mathlib.Core.Path.{◌≡◌, sym, ap, ◌∙◌}
-use lib.ListN.{length}
-use Rattle.suite.specs.Accepted.{one_vote_each, judged_fine}
-use Rattle.suite.specs.Suite.{ballots, tiles}
-use Rattle.member.proofs.Rows.{length_of_map}
-use Rattle.suite.specs.Calls.{judged, result_of}
-use Rattle.suite.specs.Steps.{join_of}
-use Rattle.suite.specs.declared.rounds.Survey.{Survey}
-use Rattle.suite.proofs.Calling.{within, fine_is, remove-no}
-use Rattle.suite.proofs.Stepping.{remove-gap, remove_entry}
+use mathlib.Core.Path.{◌≡◌}
 use borrow.Author.Rules.{rules}
+use lib.ListN.{length}
+use Rattle.std.proofs.lemmas.Result.{err_from_is_err_and}
+use Rattle.member.proofs.Rows.{length_of_map}
+use Rattle.suite.proofs.Calling.{Passed, passed_all, remove-no, remove-held, remove-new}
 use Rattle.suite.proofs.Suite.remove_unchecked.Goals as goal
-use Rattle.suite.proofs.Suite.remove_unchecked.Goals.{Start}
+use Rattle.suite.proofs.Suite.remove_unchecked.Goals.{In_ok-judge}
 
--- each member has its votes
-each_of : (c : Start) → length (tiles c.args.self) ≡ length (ballots c.args.self)
-each_of c =
-    let h : length c.args.self.members ≡ 8 = search (rules, length_of_map) in
-    let k : length c.args.self.votes ≡ 8 = search rules in
-    one_vote_each c.args.self h k
+-- none of the refusals 5 to 9
+fine : (c : In_ok-judge) → Passed c.args.self.now c.args.self.now.write c.args.name 0 c.args.read c.args.write
+fine c =
+    let h : length c.args.self.now.members ≡ 8 = search (rules, length_of_map) in
+    let k : length c.args.self.now.votes ≡ 8 = search rules in
+    passed_all c.args.self.now c.args.self.now.write c.args.name 0 c.args.read c.args.write h k c.in_ok-judge.ensures
 
-pub returns-in-No : goal.returns-in-No
-returns-in-No c =
+pub returns-in_err-judge : goal.returns-in_err-judge
+returns-in_err-judge c =
     let a = c.args in
-    remove-no a.self a.read a.write a.name 0 c.judge-judged.result c.in-No.is c.refused.result c.refused.ensures c.judge-judged.ensures
+    let p = err_from_is_err_and c.from_residual.result c.from_residual.ensures.1 in
+    rw (p.1, p.2) (remove-no a.self.now a.read a.write a.name 0 c.in_err-judge.field-0.0 c.in_err-judge.ensures)
 
 pub survey-found-requires : goal.survey-found-requires
-survey-found-requires c =
-    let s = c.args.self in
-    let each = each_of (goal.at.survey-found-requires c).Start in
-    let a = c.args in
-    let f = fine_is (judged (ballots s) s.read s.write a.name 0 a.read a.write) c.judge-judged.result c.in_default.is c.judge-judged.ensures in
-    let fine = judged_fine (ballots s) s.read s.write a.name 0 a.read a.write f in
-    within s each a.read fine.reads
+survey-found-requires c = (fine c).reads
 
-pub returns-in_default-reading : goal.returns-in_default-reading
-returns-in_default-reading c =
-    let s = c.args.self in
-    let each = each_of (goal.at.returns-in_default-reading c).Start in
-    let a = c.args in
-    let f = fine_is (judged (ballots s) s.read s.write a.name 0 a.read a.write) c.judge-judged.result c.in_default.is c.judge-judged.ensures in
-    let fine = judged_fine (ballots s) s.read s.write a.name 0 a.read a.write f in
-    ap result_of c.refused-in_default-reading.ensures
-    ∙ sym (remove-gap s each a.read a.write a.name fine.reads fine.writes f _ (sym (ap (λ (t : Survey). t.reading) c.survey-found.ensures) ∙ c.in_default-reading.is))
+pub returns-in_default : goal.returns-in_default
+returns-in_default c =
+    remove-new (fine (goal.at.returns-in_default c).In_ok-judge) c.survey-found.result c.survey-found.ensures c.in_default.is
 
 pub join-requires : goal.join-requires
-join-requires c =
-    let s = c.args.self in
-    let each = each_of (goal.at.join-requires c).Start in
-    let a = c.args in
-    let f = fine_is (judged (ballots s) s.read s.write a.name 0 a.read a.write) c.judge-judged.result c.in_default.is c.judge-judged.ensures in
-    let fine = judged_fine (ballots s) s.read s.write a.name 0 a.read a.write f in
-    within s each a.write fine.writes
+join-requires c = (fine (goal.at.join-requires c).In_ok-judge).writes
 
 pub returns : goal.returns
 returns c =
-    let s = c.args.self in
-    let each = each_of (goal.at.returns c).Start in
-    let a = c.args in
-    let f = fine_is (judged (ballots s) s.read s.write a.name 0 a.read a.write) c.judge-judged.result c.in_default.is c.judge-judged.ensures in
-    let fine = judged_fine (ballots s) s.read s.write a.name 0 a.read a.write f in
-    let found = c.survey-found.ensures in
-    c.join.ensures
-    ∙ ap (λ (t : Survey). join_of s a.read a.write c.in-Entry.version t) found
-    ∙ sym (remove_entry s each a.read a.write a.name fine.reads fine.writes f _ _ (sym (ap (λ (t : Survey). t.reading) found) ∙ c.in-Entry.is))
+    remove-held (fine (goal.at.returns c).In_ok-judge) c.survey-found.result c.survey-found.ensures c.in-Entry.is c.join.ensures

@@ -1,62 +1,31 @@
 -- `update_unchecked` is the update of the definitions.
-use mathlib.Core.Path.{◌≡◌, sym, ap, ◌∙◌}
-use lib.ListN.{length}
-use Rattle.suite.specs.Accepted.{one_vote_each, judged_fine}
-use Rattle.suite.specs.Suite.{ballots, tiles}
-use Rattle.member.proofs.Rows.{length_of_map}
-use Rattle.suite.specs.Calls.{judged, result_of}
-use Rattle.suite.proofs.Calling.{within, fine_is, update-no}
-use Rattle.suite.proofs.Stepping.{update-gap, update-entry}
+use mathlib.Core.Path.{◌≡◌}
 use borrow.Author.Rules.{rules}
+use lib.ListN.{length}
+use Rattle.std.proofs.lemmas.Result.{err_from_is_err_and}
+use Rattle.member.proofs.Rows.{length_of_map}
+use Rattle.suite.proofs.Calling.{Passed, passed_all, update-no, update-held, update-new}
 use Rattle.suite.proofs.Suite.update_unchecked.Goals as goal
-use Rattle.suite.proofs.Suite.update_unchecked.Goals.{Start}
+use Rattle.suite.proofs.Suite.update_unchecked.Goals.{In_ok-judge}
 
--- each member has its votes
-each_of : (c : Start) → length (tiles c.args.self) ≡ length (ballots c.args.self)
-each_of c =
-    let h : length c.args.self.members ≡ 8 = search (rules, length_of_map) in
-    let k : length c.args.self.votes ≡ 8 = search rules in
-    one_vote_each c.args.self h k
+-- none of the refusals 5 to 9
+fine : (c : In_ok-judge) → Passed c.args.self.now c.args.self.now.write c.args.name c.args.value c.args.read c.args.write
+fine c =
+    let h : length c.args.self.now.members ≡ 8 = search (rules, length_of_map) in
+    let k : length c.args.self.now.votes ≡ 8 = search rules in
+    passed_all c.args.self.now c.args.self.now.write c.args.name c.args.value c.args.read c.args.write h k c.in_ok-judge.ensures
 
-pub returns-in-No : goal.returns-in-No
-returns-in-No c =
+pub returns-in_err-judge : goal.returns-in_err-judge
+returns-in_err-judge c =
     let a = c.args in
-    update-no a.self a.read a.write a.name a.value c.judge-judged.result c.in-No.is c.refused.result c.refused.ensures c.judge-judged.ensures
+    let p = err_from_is_err_and c.from_residual.result c.from_residual.ensures.1 in
+    rw (p.1, p.2) (update-no a.self.now a.read a.write a.name a.value c.in_err-judge.field-0.0 c.in_err-judge.ensures)
 
-pub newest-reading-requires : goal.newest-reading-requires
-newest-reading-requires c =
-    let s = c.args.self in
-    let each = each_of (goal.at.newest-reading-requires c).Start in
-    let a = c.args in
-    let f = fine_is (judged (ballots s) s.read s.write a.name a.value a.read a.write) c.judge-judged.result c.in_default.is c.judge-judged.ensures in
-    let fine = judged_fine (ballots s) s.read s.write a.name a.value a.read a.write f in
-    within s each a.read fine.reads
-
-pub returns-in_default-reading : goal.returns-in_default-reading
-returns-in_default-reading c =
-    let s = c.args.self in
-    let each = each_of (goal.at.returns-in_default-reading c).Start in
-    let a = c.args in
-    let f = fine_is (judged (ballots s) s.read s.write a.name a.value a.read a.write) c.judge-judged.result c.in_default.is c.judge-judged.ensures in
-    let fine = judged_fine (ballots s) s.read s.write a.name a.value a.read a.write f in
-    ap result_of c.refused-in_default-reading.ensures
-    ∙ sym (update-gap s each a.read a.write a.name fine.reads fine.writes a.value f _ (sym c.newest-reading.ensures ∙ c.in_default-reading.is))
+pub returns-in_default : goal.returns-in_default
+returns-in_default c = update-new (fine (goal.at.returns-in_default c).In_ok-judge) c.in_default.ensures
 
 pub put-requires : goal.put-requires
-put-requires c =
-    let s = c.args.self in
-    let each = each_of (goal.at.put-requires c).Start in
-    let a = c.args in
-    let f = fine_is (judged (ballots s) s.read s.write a.name a.value a.read a.write) c.judge-judged.result c.in_default.is c.judge-judged.ensures in
-    let fine = judged_fine (ballots s) s.read s.write a.name a.value a.read a.write f in
-    within s each a.write fine.writes
+put-requires c = (fine (goal.at.put-requires c).In_ok-judge).writes
 
 pub returns : goal.returns
-returns c =
-    let s = c.args.self in
-    let each = each_of (goal.at.returns c).Start in
-    let a = c.args in
-    let f = fine_is (judged (ballots s) s.read s.write a.name a.value a.read a.write) c.judge-judged.result c.in_default.is c.judge-judged.ensures in
-    let fine = judged_fine (ballots s) s.read s.write a.name a.value a.read a.write f in
-    c.put.ensures
-    ∙ sym (update-entry s each a.read a.write a.name fine.reads fine.writes a.value f _ _ (sym c.newest-reading.ensures ∙ c.in-Entry.is))
+returns c = update-held (fine (goal.at.returns c).In_ok-judge) c.in-Entry.ensures c.put.ensures

@@ -7,4 +7,4 @@ use Rattle.suite.proofs.Suite.votes_of.Goals as goal
 
 pub returns : goal.returns
 returns c =
-    c.votes_of.ensures ∙ ap (λ (f : Frame). votes_of (ballots_in f) c.args.set) c.frame-frame.ensures
+    c.votes_of.ensures ∙ ap (λ (f : Frame). votes_of (ballots_in f) c.args.set) c.frame.ensures

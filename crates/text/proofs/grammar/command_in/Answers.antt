@@ -1,26 +1,45 @@
--- `text::grammar::command_in`: by the kind that the word says.
+-- `text::grammar::command_in`: the words of the commands are tried one after another.
 use mathlib.Core.Path.{sym, ◌∙◌, ap}
-use lib.Seq.{length-take-le}
-use Rattle.text.specs.Line.{alone, not_understood}
-use Rattle.text.specs.Kinds.{command_for}
-use Rattle.text.specs.declared.Parsed.{Parsed}
+use Rattle.std.specs.Option.{option_map}
+use Rattle.text.specs.Words.{ascii}
+use Rattle.text.proofs.Arguments.{reading_made}
+use Rattle.text.proofs.Commands.{is-look, is-near, is-change}
+use Rattle.text.proofs.Same.{compared}
 use Rattle.text.proofs.grammar.command_in.Goals as goal
 
-pub slice_bounds-kind_of-end : goal.slice_bounds-kind_of-end
-slice_bounds-kind_of-end c = sym (length-take-le _ _ c.requires)
+pub returns-in_err-read : goal.returns-in_err-read
+unfolding ascii
+returns-in_err-read c =
+    c.from_residual.ensures
+    ∙ sym
+    (is-look _ _ (compared _ _ c.eq.ensures c.as_slice.ensures c.if-eq.true)
+    ∙ (reading_made _ _ ∙ ap (option_map _) (sym c.reading.ensures ∙ c.in_err-read.was)))
 
-pub returns-in-Read : goal.returns-in-Read
-unfolding command_for
-returns-in-Read c = rw (sym c.kind_of-kind.ensures ∙ c.in-Read.is) c.reading.ensures
+pub returns-then-eq : goal.returns-then-eq
+unfolding ascii
+returns-then-eq c =
+    sym
+    (is-look _ _ (compared _ _ c.eq.ensures c.as_slice.ensures c.if-eq.true)
+    ∙ (reading_made _ _ ∙ ap (option_map _) (sym c.reading.ensures ∙ c.in_ok-read.was)))
 
-pub returns-in-Change : goal.returns-in-Change
-unfolding command_for
-returns-in-Change c = rw (sym c.kind_of-kind.ensures ∙ c.in-Change.is) c.changing.ensures
+pub returns-in_err-read-2 : goal.returns-in_err-read-2
+unfolding ascii
+returns-in_err-read-2 c =
+    c.from_residual-in_err-read-2.ensures
+    ∙ sym
+    (is-near _ _ (compared _ _ c.eq.ensures c.as_slice.ensures c.if-eq.false)
+    (compared _ _ c.eq-2.ensures c.as_slice-2.ensures c.if-eq-2.true)
+    ∙ (reading_made _ _ ∙ ap (option_map _) (sym c.reading-then-eq-2.ensures ∙ c.in_err-read-2.was)))
 
-pub returns-in-Suite : goal.returns-in-Suite
-unfolding command_for
-returns-in-Suite c = rw (sym c.kind_of-kind.ensures ∙ c.in-Suite.is) (ap (λ (p : Parsed). p.command) c.creating-parsed.ensures)
+pub returns-then-eq-2 : goal.returns-then-eq-2
+unfolding ascii
+returns-then-eq-2 c =
+    sym
+    (is-near _ _ (compared _ _ c.eq.ensures c.as_slice.ensures c.if-eq.false)
+    (compared _ _ c.eq-2.ensures c.as_slice-2.ensures c.if-eq-2.true)
+    ∙ (reading_made _ _ ∙ ap (option_map _) (sym c.reading-then-eq-2.ensures ∙ c.in_ok-read-2.was)))
 
-pub returns-in-Other : goal.returns-in-Other
-unfolding command_for not_understood alone
-returns-in-Other c = rw (sym c.kind_of-kind.ensures ∙ c.in-Other.is)
+pub returns : goal.returns
+unfolding ascii
+returns c = c.change_in.ensures ∙ sym (is-change _ _ (compared _ _ c.eq.ensures c.as_slice.ensures c.if-eq.false)
+    (compared _ _ c.eq-2.ensures c.as_slice-2.ensures c.if-eq-2.false))

@@ -3,36 +3,6 @@ use native.Mathlib.Omega.{arith}
 use Rattle.text.proofs.Sizes.{text_size}
 use Rattle.text.proofs.write.size.Goals as goal
 
-pub overflow_add-result : goal.overflow_add-result
-overflow_add-result c = omega arith
-
-pub overflow_add-result-in-Removed : goal.overflow_add-result-in-Removed
-overflow_add-result-in-Removed c = omega arith
-
-pub overflow_add-result-in-Removed-2 : goal.overflow_add-result-in-Removed-2
-overflow_add-result-in-Removed-2 c = omega arith
-
-pub overflow_add-result-in-At : goal.overflow_add-result-in-At
-overflow_add-result-in-At c = omega arith
-
-pub overflow_add-result-in-At-2 : goal.overflow_add-result-in-At-2
-overflow_add-result-in-At-2 c = omega arith
-
-pub overflow_add-result-in-Absent : goal.overflow_add-result-in-Absent
-overflow_add-result-in-Absent c = omega arith
-
-pub overflow_add-result-in-Near : goal.overflow_add-result-in-Near
-overflow_add-result-in-Near c = omega arith
-
-pub overflow_add-result-in-Near-2 : goal.overflow_add-result-in-Near-2
-overflow_add-result-in-Near-2 c = omega arith
-
-pub overflow_add-result-in-Near-3 : goal.overflow_add-result-in-Near-3
-overflow_add-result-in-Near-3 c = omega arith
-
-pub overflow_add-result-in-Refused : goal.overflow_add-result-in-Refused
-overflow_add-result-in-Refused c = omega arith
-
 pub returns-in-SuiteOk : goal.returns-in-SuiteOk
 returns-in-SuiteOk c = rw (c.in-SuiteOk.is, text_size)
 

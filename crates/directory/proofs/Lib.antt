@@ -1,8 +1,0 @@
-pub mod AskPlaces
-pub mod AskChange
-pub mod AskTable
-pub mod AskFolds
-pub mod RowFolds
-pub mod SoundPlaces
-pub mod Grants
-pub mod Callings

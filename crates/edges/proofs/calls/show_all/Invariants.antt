@@ -1,9 +1,0 @@
--- `edges::calls::show_all` is safe and ends: each number of the slice is shown once.
-use Rattle.std.proofs.Common.{length, ◌-◌, ◌≤◌}
-use Rattle.edges.proofs.calls.show_all.Given as goal
-
-abbrev pub invariant-loop-i : goal.invariant-loop-i
-invariant-loop-i g l = l.i ≤ length l.numbers
-
-abbrev pub decreases-loop-i : goal.decreases-loop-i
-decreases-loop-i g l = length l.numbers - l.i
