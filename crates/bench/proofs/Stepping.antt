@@ -16,7 +16,7 @@ use Rattle.suite.specs.declared.Refusal.{Refusal}
 use Rattle.image.specs.Layout.{image_of}
 use Rattle.image.specs.Reader.{loaded, read_image, load_of}
 use Rattle.image.specs.Writer.{Lent, untouched, fill_of}
-use Rattle.bench.specs.Bench.{Stepped, stepped, status_of, call_for, numbers_of, bytes_of, filled, settled, carried, admitted, bench_of}
+use Rattle.bench.specs.Bench.{Stepped, stepped, status_of, answering, call_for, numbers_of, bytes_of, filled, settled, carried, admitted, bench_of}
 use Rattle.bench.specs.Bench as bench
 use Rattle.bench.specs.declared.operation.Operation.{Operation}
 use Rattle.bench.specs.declared.operation.Operation.TheVariants.{Lookup, Insert, Update, Remove, Neighbours}
@@ -24,6 +24,13 @@ use Rattle.bench.specs.declared.operation.Operation.TheVariants.{Lookup, Insert,
 -- a result that is this refusal
 pub status-err : (r : prelude.Result Unit Refusal) (e : Refusal) → IsErrAnd r (λ y. y ≡ e) → status_of r ≡ number_of e
 status-err r e h = let p = err_from_is_err_and r h in ap status_of p.1 ∙ ap number_of p.2
+
+pub answering-err : (r : prelude.Result (List ℕ) Refusal) (e : Refusal) (out answer : List ℕ) → IsErrAnd r (λ y. y ≡ e)
+    → answering r out answer ≡ stepped (number_of e) out answer
+answering-err r e out answer h =
+    let p = err_from_is_err_and r h in
+    ap (λ (q : prelude.Result (List ℕ) Refusal). answering q out answer) p.1
+    ∙ ap (λ (y : Refusal). stepped (number_of y) out answer) p.2
 
 -- ---- image out and the answer
 
@@ -142,11 +149,11 @@ module _ (s : Suite) (rs ws x v : ℕ) (out answer : List ℕ) (o p : Operation)
       (sym (called_is o rs ws x v ∙ ap (λ (q : Operation). called q rs ws x v) i))
 
   -- its own refusal
-  pub refusing : (r : prelude.Result Unit Refusal) (e : Refusal) → IsErrAnd r (λ y. y ≡ e)
+  pub refusing : (r : prelude.Result (List ℕ) Refusal) (e : Refusal) → IsErrAnd r (λ y. y ≡ e)
       → refused (number_of e) ≡ (step_of s (called p rs ws x v)).outcome
-      → stepped (status_of r) out answer ≡ carried (answered []) s (call_for (bench.number_of o) rs ws x v) out answer
+      → answering r out answer ≡ carried (answered []) s (call_for (bench.number_of o) rs ws x v) out answer
   refusing r e h f =
-      ap (λ (n : ℕ). stepped n out answer) (status-err r e h)
+      answering-err r e out answer h
       ∙ ap (λ (q : Outcome). settled q (image_of (step_of s (called p rs ws x v)).suite) out answer) f
       ∙ carried-by
 

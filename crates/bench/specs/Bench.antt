@@ -1,6 +1,7 @@
 -- The rules paper, "Bench call": what it returns, and what stands afterwards in the bytes that the bench lends.
-use Rattle.std.specs.Prelude.{List, [], ◌∷◌, ◌++◌, cond, ℕ, ◌/◌, ◌%◌, ◌^◌, length, take, drop, replicate, leb, ltb, eqb, Result}
+use Rattle.std.specs.Prelude.{List, [], ◌∷◌, ◌++◌, cond, ℕ, ◌/◌, ◌%◌, ◌^◌, length, take, drop, replicate, leb, ltb, eqb, Result, Ok, Err}
 use Rattle.suite.specs.Outcome.{Outcome, answered, refused, judged_of}
+use Rattle.suite.specs.Outcome as suite
 use Rattle.suite.specs.Calls.{Call, lookup, insert, update, remove, neighbours, step_of}
 use Rattle.suite.specs.declared.Suite.{Suite}
 use Rattle.suite.specs.declared.Refusal.{Refusal}
@@ -22,6 +23,16 @@ stepped code out answer = record { code = code; out = out; answer = answer }
 abbrev pub status_of : Result Unit Refusal → ℕ
 status_of r = judged_of r
 
+-- 32-bit numbers, most significant byte first.
+unfoldable pub bytes_of : List ℕ → List ℕ
+bytes_of [] = []
+bytes_of (n ∷ l) = n / 2 ^ 24 % 256 ∷ n / 2 ^ 16 % 256 ∷ n / 2 ^ 8 % 256 ∷ n % 256 ∷ bytes_of l
+
+-- what stands once the numbers of a call are in the answer's first 16 bytes, most significant byte first; a refusal leaves it
+abbrev pub answering : Result (List ℕ) Refusal → List ℕ → List ℕ → Stepped
+answering (Ok numbers) out answer = stepped 0 out (bytes_of numbers ++ drop 16 answer)
+answering (Err refusal) out answer = stepped (suite.number_of refusal) out answer
+
 abbrev pub number_of : Operation → ℕ
 number_of Lookup = 0
 number_of Insert = 1
@@ -41,11 +52,6 @@ call_for operation rs ws x v =
 -- (HIGH 1,048,577), requests, 0. They are the values that the call answers, and zeros.
 unfoldable pub numbers_of : List ℕ → List ℕ
 numbers_of vs = take 4 (vs ++ replicate 4 0)
-
--- 32-bit numbers, most significant byte first.
-unfoldable pub bytes_of : List ℕ → List ℕ
-bytes_of [] = []
-bytes_of (n ∷ l) = n / 2 ^ 24 % 256 ∷ n / 2 ^ 16 % 256 ∷ n / 2 ^ 8 % 256 ∷ n % 256 ∷ bytes_of l
 
 -- 19 for the image out. On 0 image out starts with the new image and the answer's first 16 bytes are four numbers. Later bytes stay.
 unfoldable pub filled : List ℕ → List ℕ → List ℕ → List ℕ → Stepped

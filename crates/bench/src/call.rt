@@ -1,11 +1,11 @@
 // A call on the suite that the image holds.
-ghost use Rattle.std.specs.Prelude.{◌≡◌, [], ◌≤◌, length};
+ghost use Rattle.std.specs.Prelude.{◌≡◌, ℕ, List, []};
 ghost use Rattle.suite.specs.Outcome.{answered};
 ghost use Rattle.image.specs.Layout.{image_of};
-ghost use Rattle.bench.specs.Bench.{status_of, stepped, number_of, call_for, carried, bench_of};
+ghost use Rattle.bench.specs.Bench.{status_of, stepped, answering, number_of, call_for, carried, bench_of};
 
 use crate::Operation;
-use crate::answer::{kept, shown, written};
+use crate::answer::{kept, put_numbers, shown, written};
 use suite::{Near, Refusal, Suite};
 
 // Both sets, the name and the value. Those that an operation lacks are ignored.
@@ -33,21 +33,23 @@ pub(crate) fn carry_out(
     }
     let mut suite = Suite::blank();
     image::read(image, &mut suite)?;
-    call(&mut suite, operation, arguments, image, out, answer)
+    let numbers = call(&mut suite, operation, arguments, image, out)?;
+    put_numbers(answer, numbers);
+    Ok(())
 }
 
-// The call on the suite that was read. A lookup and a neighbour query leave its image as it is.
+// The call on the suite that was read: image out is written, and the answer's numbers go back. A lookup and a neighbour query
+// leave the image as it is.
 fn call(
     suite: &mut Suite,
     operation: Operation,
     arguments: Arguments,
     image: &[u8],
     out: &mut [u8],
-    answer: &mut [u8],
-) -> Result<(), Refusal>
-    requires { (16 ≤ length answer.old) × (image.now ≡ image_of suite.old) }
-    ensures { stepped (status_of result) out.new answer.new
-        ≡ carried (answered []) suite.old (call_for (number_of operation) arguments.read arguments.write arguments.name arguments.value) out.old answer.old }
+) -> Result<[u32; 4], Refusal>
+    requires { image.now ≡ image_of suite.old }
+    ensures { (answer : List ℕ) → answering result out.new answer
+        ≡ carried (answered []) suite.old (call_for (number_of operation) arguments.read arguments.write arguments.name arguments.value) out.old answer }
 {
     let Arguments {
         read,
@@ -58,19 +60,19 @@ fn call(
     match operation {
         Operation::Lookup => {
             let looked = suite.lookup_unchecked(read, name)?;
-            kept(image, shown(looked), out, answer)
+            kept(image, shown(looked), out)
         }
         Operation::Insert => {
             let done = suite.insert_unchecked(read, write, name, value)?;
-            written(suite, done, out, answer)
+            written(suite, done, out)
         }
         Operation::Update => {
             let done = suite.update_unchecked(read, write, name, value)?;
-            written(suite, done, out, answer)
+            written(suite, done, out)
         }
         Operation::Remove => {
             let done = suite.remove_unchecked(read, write, name)?;
-            written(suite, done, out, answer)
+            written(suite, done, out)
         }
         // Ends are numbered as the answer wants them: LOW 0, a name plus 1, HIGH.
         Operation::Neighbours => {
@@ -79,7 +81,7 @@ fn call(
                 above,
                 requests,
             } = suite.neighbours_unchecked(read, name)?;
-            kept(image, [below, above, requests, 0], out, answer)
+            kept(image, [below, above, requests, 0], out)
         }
     }
 }

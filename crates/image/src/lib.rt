@@ -22,12 +22,11 @@ const EDITION: u32 = 1;
 const NAME: u32 = 20;
 
 // Writes the image of a suite to the start of the lent bytes, and answers how many bytes it has.
+#[tactic(auto, unfolding(crate::specs::Writer::write_of))]
 pub fn write(suite: &Suite, out: &mut [u8]) -> Result<usize, Refusal>
     ensures { lent_of result out.new ≡ write_of suite.now out.old }
 {
-    if !suite.is_sound() {
-        return Err(Refusal::Unsound);
-    }
+    suite.must_be_sound()?;
     write_unchecked(suite, out)
 }
 

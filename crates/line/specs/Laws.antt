@@ -110,11 +110,11 @@ answer_kept t line f = go t.made refl
     go false h = rw (answer-unmade t line h) (fine_without t (ballots_of line) f)
 
 -- "A line over 80 bytes (newline not counted) .. is 14": of a longer line its first 81 bytes say all
-long_command : (line : List ℕ) → 80 < length line → command_of line ≡ None
+pub long_command : (line : List ℕ) → 80 < length line → command_of line ≡ None
 unfolding command_of given_of longest_line
 long_command line h = rw (lt-leb (length line) 80 h)
 
-long_ballots : (line : List ℕ) → 80 < length line → ballots_of line ≡ None
+pub long_ballots : (line : List ℕ) → 80 < length line → ballots_of line ≡ None
 unfolding ballots_of given_of longest_line
 long_ballots line h = rw (lt-leb (length line) 80 h)
 

@@ -55,7 +55,6 @@ pub(crate) fn carry_out(suite: &mut Suite, command: Option<Command>) -> Reply
             let (from, to) = (set_of(suite, read), set_of(suite, write));
             reply::removed(suite.remove_unchecked(from, to, name))
         }
-        Some(Command::Suite { .. }) => reply::no(Refusal::NotUnderstood),
-        None => reply::no(Refusal::NotUnderstood),
+        Some(Command::Suite { .. }) | None => reply::no(Refusal::NotUnderstood),
     }
 }

@@ -9,10 +9,11 @@ use Rattle.std.specs.List.{copy_within}
 use Rattle.member.proofs.Shift.{end-of-first}
 use lib.ListN.{length, take, drop, get_or, set, replicate, length-append, length-take, length-drop, length-replicate, replicate-append-replicate, get_or-append}
 use Rattle.member.specs.Tile.{none, entries, unused, holding}
+use Rattle.member.specs.Change.{drop_of, inserted_at}
 use Rattle.member.specs.Steps.{moved_at}
 use Rattle.member.specs.declared.Row.{Row}
 use Rattle.member.specs.declared.Member.{Member}
-use Rattle.member.proofs.Changes.{member_path, places}
+use Rattle.member.proofs.Changes.{member_path, places, drop_within}
 use lib.Seq.{take_at, drop_at, take-take, take-append-le, drop-append-add, drop-drop, length-take-le, get_or-append-add, get_or-drop, sets, sets-eq}
 
 -- rows put one after another
@@ -146,3 +147,19 @@ module _ (m : Member) (i j : ℕ) (h : i ≤ length (entries m)) (k : j + (lengt
   put-moved a w f g e p q =
       let b = put-between none m.rows (entries m) (unused m) (places m) i j h k w f p q in
       (λ t. record { low = g; count = (e t).count; rows = sets (e t).rows f w }) ∙ member_path refl (sym b.0) b.1
+
+-- Dropping an entry, with a the member in which the entries past it were moved down over it.
+pub drop-done : (m a : Member) (i : ℕ) → i < length (entries m) → length (entries m) ≤ length m.rows → a ≡ moved_at m (i + 1) i → a ≡ drop_of m i
+unfolding moved_at
+drop-done m a i h k e =
+    (λ t. record { low = (e t).low; count = a.count; rows = a.rows })
+    ∙ put-moved m (i + 1) i (omega arith) (omega arith) a [] i m.low e (omega arith) (omega arith)
+    ∙ sym (drop_within m i h)
+
+-- Putting a row in, with a the member in which the entries from its place on were moved up.
+pub insert-done : (m : Member) (r : Row) (a : Member) (i : ℕ) → i ≤ length (entries m) → length (entries m) < length m.rows
+    → a ≡ moved_at m i (i + 1) → record { low = a.low; count = a.count; rows = set a.rows i r } ≡ inserted_at m i r
+unfolding moved_at inserted_at
+insert-done m r a i h k e =
+    (λ t. record { low = (e t).low; count = a.count; rows = set a.rows i r })
+    ∙ put-moved m i (i + 1) h (omega arith) a (r ∷ []) i m.low e h (omega arith)

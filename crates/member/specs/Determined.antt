@@ -35,6 +35,10 @@ in_range_determined row = same (in_range row)
 pub is_none_determined : (row : Row) → Determines (λ r. r ≡ is_none row)
 is_none_determined row = same (is_none row)
 
+-- a member is all that its fields say
+pub one_tile : (a b : Member) → a.low ≡ b.low → a.count ≡ b.count → a.rows ≡ b.rows → a ≡ b
+one_tile a b l c r = λ j. record { low = l j; count = c j; rows = r j }
+
 module _ (m : Member) where
   pub used-determined : Determines (λ r. (r ≡ length (entries m)) × (r ≤ 32))
   used-determined r r' p q = p.0 ∙ sym q.0

@@ -15,18 +15,16 @@ impl Member {
     {
         let n = self.used();
         let at = self.seat(name);
-        if at < n {
-            if self.rows[at].name == name {
-                let kept = self.rows[at].gap;
-                self.rows[at] = Row {
-                    name,
-                    version,
-                    value,
-                    gap: kept,
-                };
-                self.count = n;
-                return;
-            }
+        if at < n && self.rows[at].name == name {
+            let kept = self.rows[at].gap;
+            self.rows[at] = Row {
+                name,
+                version,
+                value,
+                gap: kept,
+            };
+            self.count = n;
+            return;
         }
         if n < Member::SLOTS {
             let split = self.gap_below(at);
@@ -56,24 +54,17 @@ impl Member {
         requires { (at ≤ length (entries self.old)) × (length (entries self.old) < 32) }
         ensures { self.new ≡ inserted_at self.old at row }
     {
-        let n = self.used();
-        self.rows.copy_within(at..n, at + 1);
+        self.shift(at, at + 1);
         self.rows[at] = row;
-        self.count = n + 1;
     }
 
     // Without the entry in place `at`: the merged gap keeps the version of the gap below it.
     pub fn drop(mut self, at: usize) -> Member
         ensures { result ≡ drop_of self at }
     {
-        let n = self.used();
-        if n <= at {
-            return self;
+        if at < self.used() {
+            self.shift(at + 1, at);
         }
-        let last = n - 1;
-        self.rows.copy_within(at + 1..n, at);
-        self.rows[last] = Row::NONE;
-        self.count = last;
         self
     }
 
@@ -83,10 +74,8 @@ impl Member {
         ensures { result ≡ append_of self row }
     {
         let top = self.used();
-        if top < Member::SLOTS {
-            if self.end_below(top) <= row.name && in_range(row) {
-                self.insert(top, row);
-            }
+        if top < Member::SLOTS && self.end_below(top) <= row.name && in_range(row) {
+            self.insert(top, row);
         }
         self
     }

@@ -8,7 +8,7 @@ ghost use Rattle.member.specs.Steps.{own, end_put, moved_at};
 use crate::{Bound, Member, Name, Row};
 
 // How many rows an end has: one for a name, none for LOW and HIGH.
-fn rows_of(end: u32) -> usize
+pub(crate) fn rows_of(end: u32) -> usize
     ensures { (result ≡ own end) × (result ≤ 1) }
 {
     if 0 < end && end < Name::HIGH { 1 } else { 0 }

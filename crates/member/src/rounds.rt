@@ -94,11 +94,11 @@ impl Member {
         requires { at ≡ seat_in (entries self.now) name }
         ensures { result ≡ offer_above_of self.now name k v }
     {
+        let from = self.next(at, name);
         let n = self.used();
-        for i in self.next(at, name)..n {
-            let row = self.rows[i];
-            if is_offered(row, k, end_of(row.name) < k, v) {
-                return Some(bound_of(row));
+        for row in &self.rows[from..n] {
+            if is_offered(*row, k, end_of(row.name) < k, v) {
+                return Some(bound_of(*row));
             }
         }
         offer_end(Name::HIGH, k)

@@ -3,6 +3,7 @@ ghost use Rattle.std.specs.Prelude.{◌≡◌, ◌≤◌, ◌+◌, length, take,
 ghost use Rattle.member.specs.Tile.{entries};
 ghost use Rattle.member.specs.Search.{end_of, seat_in, next_in, below_end, past_end, gap_below, end_below, end_at};
 
+use crate::coalesce::rows_of;
 use crate::{Member, Name};
 
 // The end of a name; a name past the largest, which no sound member holds, counts as HIGH.
@@ -87,14 +88,12 @@ impl Member {
     pub(crate) fn past_end(&self, end: u32) -> usize
         ensures { result ≡ past_end (entries self.now) end }
     {
-        if end == 0 {
-            return 0;
+        let at = self.below_end(end);
+        if rows_of(end) == 1 {
+            self.next(at, end - 1)
+        } else {
+            at
         }
-        if Name::HIGH <= end {
-            return self.used();
-        }
-        let name = end - 1;
-        self.next(self.seat(name), name)
     }
 
     // The version of the gap below the entry in place `at`.

@@ -2,7 +2,7 @@
 use Rattle.member.specs.declared.Bound.{Bound}
 use Rattle.std.specs.Prelude.{Option}
 use Rattle.std.specs.Prelude as prelude
-use Rattle.std.specs.Prelude.{Ok, Err, ◌≡◌, refl, List, [], ◌∷◌, ℕ, ◌-◌, ◌^◌, ◌≤◌, length, get_or}
+use Rattle.std.specs.Prelude.{Ok, Err, ◌≡◌, refl, List, [], ◌∷◌, cond, ℕ, ◌-◌, ◌^◌, ◌≤◌, length, get_or}
 use Rattle.std.proofs.Common.{sym, ap, ◌∙◌}
 use Rattle.member.specs.Determined.{Determines, same}
 use Rattle.member.specs.declared.Reading.{Reading}
@@ -138,6 +138,10 @@ created-tells (Err r) (Ok a) e = not_both [] (number_of r) (sym (outcomes e))
 created-tells (Err a) (Err b) e = ap Err (number_tells a b (refused_is (number_of a) (number_of b) (outcomes e)))
 
 -- The public functions. A call and its unchecked form have one contract each: `run` is `call_of` for the one and `step_of` for the other.
+-- no two suites have one frame and the same members
+pub one_suite : (s t : Suite) → frame_of s ≡ frame_of t → s.members ≡ t.members → s ≡ t
+one_suite s t f m = λ j. record { members = m j; votes = (f j).votes; read = (f j).read; write = (f j).write; count = (f j).count }
+
 module _ (run : Suite → Call → Result) (s : Suite) where
   pub lookup-determined : (set name : ℕ) → Determines (λ r. looked_of r ≡ (run s (lookup set name)).outcome)
   lookup-determined set name = told looked_of looked_tells (run s (lookup set name)).outcome
@@ -162,6 +166,9 @@ blank_determined = same blank
 
 pub is_sound_determined : (s : Suite) → Determines (λ r. r ≡ sound_suite s)
 is_sound_determined s = same (sound_suite s)
+
+pub must_be_sound_determined : (s : Suite) → Determines (λ r. judged_of r ≡ cond (sound_suite s) 0 1)
+must_be_sound_determined s = told judged_of judged-tells (cond (sound_suite s) 0 1)
 
 pub size_determined : (s : Suite) → Determines (λ r. (r ≡ length (tiles s)) × ((r ≡ length (ballots s)) × (r ≤ 8)))
 size_determined s r r' p q = same (length (tiles s)) r r' p.0 q.0

@@ -25,7 +25,7 @@ fn change_members<F: Fn(&mut Member)>(members: &mut [Member; 8], n: usize, set: 
         if left % 2 == 1 {
             change(member);
         }
-        left = left / 2;
+        left /= 2;
     }
 }
 
@@ -51,7 +51,7 @@ impl Suite {
             if left % 2 == 1 {
                 table[i] = answer(member);
             }
-            left = left / 2;
+            left /= 2;
         }
         table
     }
@@ -84,12 +84,10 @@ impl Suite {
         let n = self.size();
         let mut left = set;
         for member in &self.members[..n] {
-            if left % 2 == 1 {
-                if !fits(member) {
-                    return false;
-                }
+            if left % 2 == 1 && !fits(member) {
+                return false;
             }
-            left = left / 2;
+            left /= 2;
         }
         true
     }

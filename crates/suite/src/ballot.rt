@@ -42,7 +42,7 @@ impl Frame {
             if left % 2 == 1 {
                 sum += u64::from(*vote);
             }
-            left = left / 2;
+            left /= 2;
         }
         sum
     }
@@ -92,19 +92,7 @@ impl Frame {
         let all = self.votes_of(self.everyone());
         let r = u64::from(self.read);
         let w = u64::from(self.write);
-        if r == 0 {
-            return false;
-        }
-        if all < r {
-            return false;
-        }
-        if w == 0 {
-            return false;
-        }
-        if all < w {
-            return false;
-        }
-        all < r + w
+        1 <= r && r <= all && 1 <= w && w <= all && all < r + w
     }
 
     // Is no vote over 15, and are the unused ones zero?

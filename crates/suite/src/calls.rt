@@ -11,45 +11,35 @@ impl Suite {
     pub fn lookup(&self, set: u32, name: u32) -> Result<Looked, Refusal>
         ensures { looked_of result ≡ (call_of self.now (lookup set name)).outcome }
     {
-        if !self.is_sound() {
-            return Err(Refusal::Unsound);
-        }
+        self.must_be_sound()?;
         self.lookup_unchecked(set, name)
     }
 
     pub fn neighbours(&self, set: u32, name: u32) -> Result<Near, Refusal>
         ensures { near_of result ≡ (call_of self.now (neighbours set name)).outcome }
     {
-        if !self.is_sound() {
-            return Err(Refusal::Unsound);
-        }
+        self.must_be_sound()?;
         self.neighbours_unchecked(set, name)
     }
 
     pub fn insert(&mut self, read: u32, write: u32, name: u32, value: u32) -> Result<Done, Refusal>
         ensures { result_of result self.new ≡ call_of self.old (insert read write name value) }
     {
-        if !self.is_sound() {
-            return Err(Refusal::Unsound);
-        }
+        self.must_be_sound()?;
         self.insert_unchecked(read, write, name, value)
     }
 
     pub fn update(&mut self, read: u32, write: u32, name: u32, value: u32) -> Result<Done, Refusal>
         ensures { result_of result self.new ≡ call_of self.old (update read write name value) }
     {
-        if !self.is_sound() {
-            return Err(Refusal::Unsound);
-        }
+        self.must_be_sound()?;
         self.update_unchecked(read, write, name, value)
     }
 
     pub fn remove(&mut self, read: u32, write: u32, name: u32) -> Result<Done, Refusal>
         ensures { result_of result self.new ≡ call_of self.old (remove read write name) }
     {
-        if !self.is_sound() {
-            return Err(Refusal::Unsound);
-        }
+        self.must_be_sound()?;
         self.remove_unchecked(read, write, name)
     }
 }

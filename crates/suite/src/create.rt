@@ -51,11 +51,11 @@ impl Suite {
             return Err(Refusal::Vote);
         }
         let suite = Suite {
-            members: [Member::fresh(); 8],
             votes: placed(votes),
             read,
             write,
             count: n,
+            ..Suite::blank()
         };
         if !suite.quorum_holds() {
             return Err(Refusal::Quorum);

@@ -1,7 +1,6 @@
 // A suite's size and what its frame says: refusals 5 to 9 need no member.
 ghost use Rattle.std.specs.Prelude.{◌≡◌, ◌≤◌, ◌-◌, ◌^◌, length};
 ghost use Rattle.suite.specs.Suite.{tiles, ballots, frame_of};
-ghost use Rattle.suite.specs.Sets.{votes_of};
 ghost use Rattle.suite.specs.Outcome.{judged_of};
 ghost use Rattle.suite.specs.Calls.{judged};
 
@@ -32,13 +31,6 @@ impl Suite {
         ensures { result ≡ 2 ^ length (tiles self.now) - 1 }
     {
         (1u32 << self.size()) - 1
-    }
-
-    // The votes of the members that a set names.
-    pub(crate) fn votes_of(&self, set: u32) -> u64
-        ensures { result ≡ votes_of (ballots self.now) set }
-    {
-        self.frame().votes_of(set)
     }
 
     // The first of refusals 5 to 9 that applies.

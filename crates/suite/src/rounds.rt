@@ -42,7 +42,7 @@ impl Suite {
                     best = Some(here);
                 }
             }
-            left = left / 2;
+            left /= 2;
         }
         best.unwrap_or(Reading::Gap { version: 0 })
     }

@@ -1,10 +1,11 @@
 // Is a suite sound?
-ghost use Rattle.std.specs.Prelude.{◌≡◌, ◌&&◌, drop};
+ghost use Rattle.std.specs.Prelude.{◌≡◌, ◌&&◌, cond, drop};
 ghost use Rattle.suite.specs.Sets.{all, total};
 ghost use Rattle.suite.specs.Suite.{tiles, ballots, quorum, is_fresh, sound_suite};
+ghost use Rattle.suite.specs.Outcome.{judged_of};
 ghost use Rattle.member.specs.Sound.{sound_member};
 
-use crate::Suite;
+use crate::{Refusal, Suite};
 use member::Member;
 
 // An unused place holds zero, which is a fresh member.
@@ -35,5 +36,16 @@ impl Suite {
         ensures { result ≡ sound_suite self.now }
     {
         self.frame().is_sound() && self.members_are_sound()
+    }
+
+    // Refusal 1, which a call on any suite, as the writer of its image, judges first.
+    pub fn must_be_sound(&self) -> Result<(), Refusal>
+        ensures { judged_of result ≡ cond (sound_suite self.now) 0 1 }
+    {
+        if self.is_sound() {
+            Ok(())
+        } else {
+            Err(Refusal::Unsound)
+        }
     }
 }

@@ -3,13 +3,12 @@
 //   round one:   present, version, value, then version and lower end of the gap below, version and upper end of the gap above;
 //   round two:   rank, end, version, value of the entry offered below, then of the one offered above; the rank is the greater
 //                the nearer the entry is to the name, and 0 where none is offered or its end is past HIGH;
-//   a fit:       1 or 0;
 // with zeros in the places left, and in the rows of members that were not asked.
 ghost use Rattle.std.specs.Prelude.{◌≡◌, ◌<◌};
 ghost use Rattle.suite.specs.Best.{best};
-ghost use Rattle.suite.specs.Sets.{chosen, all};
+ghost use Rattle.suite.specs.Sets.{chosen};
 ghost use Rattle.suite.specs.Calls.{bound_or, rank_above};
-ghost use Rattle.suite.specs.Rows.{no_row, fit_row, reading_row, around_row, offers_row, rank_within, row_reading, beats_at, is_set};
+ghost use Rattle.suite.specs.Rows.{no_row, reading_row, around_row, offers_row, rank_within, row_reading, beats_at};
 
 use member::{Around, Bound, Name, Reading};
 
@@ -36,6 +35,7 @@ pub fn row_reading(row: [u32; 8]) -> Reading
     }
 }
 
+#[tactic(auto, unfolding(crate::specs::Rows::around_row))]
 pub fn around_row(around: Around) -> [u32; 8]
     ensures { result ≡ around_row around }
 {
@@ -84,6 +84,7 @@ fn rank_above(offer: Option<Bound>) -> u32
     }
 }
 
+#[tactic(auto, unfolding(crate::specs::Rows::offers_row))]
 pub fn offers_row(below: Option<Bound>, above: Option<Bound>) -> [u32; 8]
     ensures { result ≡ offers_row below above }
 {
@@ -127,7 +128,7 @@ pub(crate) fn best_row(table: &[[u32; 8]; 8], set: u32, column: usize, then: usi
                 best = Some(row);
             }
         }
-        left = left / 2;
+        left /= 2;
     }
     best.copied().unwrap_or([0; 8])
 }

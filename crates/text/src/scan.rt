@@ -1,13 +1,10 @@
 // Going along a line, word by word. A place is where a word begins; the place behind the last word is one past the line's end.
 ghost use Rattle.std.specs.Prelude.{◌≡◌, ◌≤◌, length, drop};
 ghost use Rattle.std.specs.List.{prefix_len};
-ghost use Rattle.text.specs.Words.{largest};
 ghost use Rattle.text.specs.Line.{with_number, with_nothing};
 ghost use Rattle.text.specs.Scan.{is_letter, ends_at, dash_at, words_from, number_on, number_at, set_at};
 
 use crate::Members;
-
-const LARGEST: u64 = 4_294_967_295;
 
 // What the word at a place writes, a number or a set, and where the word ends.
 #[derive(Clone, Copy)]
@@ -66,7 +63,7 @@ pub(crate) fn number_at(line: &[u8], at: usize) -> Option<Found<u32>>
 {
     let b = *line.get(at)?;
     match b {
-        b'1'..=b'9' => digits(line, at + 1, u64::from(b - b'0')),
+        b'1'..=b'9' => digits(line, at + 1, u32::from(b - b'0')),
         b'0' => {
             if ends_at(line, at + 1) {
                 Some(Found { it: 0, end: at + 1 })
@@ -89,9 +86,9 @@ pub(crate) fn last_number_at(line: &[u8], at: usize) -> Option<u32>
     Some(number.it)
 }
 
-// The number whose digits go on at `at`, after digits that come to `value`.
-fn digits(line: &[u8], at: usize, value: u64) -> Option<Found<u32>>
-    requires { (at ≤ length line.now) × (value ≤ largest) }
+// The number whose digits go on at `at`, after digits that come to `value`; none where it does not fit.
+fn digits(line: &[u8], at: usize, value: u32) -> Option<Found<u32>>
+    requires { at ≤ length line.now }
     ensures { result ≡ number_on value at (drop at line.now) }
 {
     let mut value = value;
@@ -99,22 +96,16 @@ fn digits(line: &[u8], at: usize, value: u64) -> Option<Found<u32>>
         let b = line[i];
         match b {
             b'0'..=b'9' => {
-                value = value * 10 + u64::from(b - b'0');
-                if LARGEST < value {
-                    return None;
-                }
+                value = value.checked_mul(10)?.checked_add(u32::from(b - b'0'))?;
             }
             b' ' => {
-                return Some(Found {
-                    it: value as u32,
-                    end: i,
-                });
+                return Some(Found { it: value, end: i });
             }
             _ => return None,
         }
     }
     Some(Found {
-        it: value as u32,
+        it: value,
         end: line.len(),
     })
 }

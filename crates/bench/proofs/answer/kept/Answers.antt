@@ -1,17 +1,13 @@
--- `kept` puts the image where it fits, and the numbers.
-use Rattle.std.proofs.Common.{ap, ◌∙◌, List, ℕ}
-use Rattle.bench.specs.Bench.{stepped}
-use Rattle.bench.proofs.Stepping.{status-err, fill-refused, fill-written}
+-- `kept` puts the image where it fits.
+use Rattle.std.proofs.Common.{◌∙◌}
+use Rattle.bench.proofs.Stepping.{answering-err, fill-refused, fill-written}
 use Rattle.bench.proofs.answer.kept.Goals as goal
 
 pub returns-in_err-fill : goal.returns-in_err-fill
-returns-in_err-fill c =
+returns-in_err-fill c = λ answer.
     let a = c.args in
-    ap (λ (n : ℕ). stepped n c.fill.new.out a.answer.now) (status-err c.from_residual.result _ c.from_residual.ensures.1)
-    ∙ fill-refused a.numbers a.image.now a.out.now a.answer.now _ _ c.in_err-fill.ensures
+    answering-err c.from_residual.result _ _ answer c.from_residual.ensures.1
+    ∙ fill-refused a.numbers a.image.now a.out.now answer _ _ c.in_err-fill.ensures
 
 pub returns : goal.returns
-returns c =
-    let a = c.args in
-    ap (λ (l : List ℕ). stepped 0 c.fill.new.out l) c.put_numbers.ensures
-    ∙ fill-written a.numbers a.image.now a.out.now a.answer.now _ _ c.in_ok-fill.ensures
+returns c = λ answer. fill-written c.args.numbers c.args.image.now c.args.out.now answer _ _ c.in_ok-fill.ensures

@@ -1,5 +1,5 @@
 -- `carry_out` goes through the refusals in the paper's order, and makes the call on the suite that was read.
-use Rattle.std.proofs.Common.{◌≡◌, ap, ◌∙◌, ℕ, arith}
+use Rattle.std.proofs.Common.{◌≡◌, ap, ◌∙◌, List, ℕ, arith}
 use Rattle.fields.specs.Bits.{Below}
 use Rattle.fields.proofs.Below.{below_of_lem}
 use Rattle.image.specs.Reader.{loaded, read_image}
@@ -33,11 +33,20 @@ bytes-in c = below_of_lem 256 c.args.image.now (λ i k. omega (arith, c.type_inv
 pub call-requires : goal.call-requires
 call-requires c =
     let d = (goal.at.call-requires c).In_ok-read in
-    (omega arith, written_read c.args.image.now c.read.new.suite (bytes-in d) (read-in d))
+    written_read c.args.image.now c.read.new.suite (bytes-in d) (read-in d)
+
+pub returns-in_err-numbers : goal.returns-in_err-numbers
+returns-in_err-numbers c =
+    let a = c.args in
+    let x = a.arguments in
+    ap (λ (n : ℕ). stepped n c.call.new.out a.answer.now) (status-err c.from_residual-in_err-numbers.result _ c.from_residual-in_err-numbers.ensures.1)
+    ∙ loads (number_of a.operation) x.read x.write x.name x.value a.image.now a.out.now a.answer.now (upto_4 a.operation) (omega arith) _ _
+    (read-in (goal.at.returns-in_err-numbers c).In_ok-read) (c.in_err-numbers.ensures a.answer.now)
 
 pub returns : goal.returns
 returns c =
     let a = c.args in
     let x = a.arguments in
-    loads (number_of a.operation) x.read x.write x.name x.value a.image.now a.out.now a.answer.now (upto_4 a.operation) (omega arith) _ _
-    (read-in (goal.at.returns c).In_ok-read) c.call.ensures
+    ap (λ (l : List ℕ). stepped 0 c.call.new.out l) c.put_numbers.ensures
+    ∙ loads (number_of a.operation) x.read x.write x.name x.value a.image.now a.out.now a.answer.now (upto_4 a.operation) (omega arith) _ _
+    (read-in (goal.at.returns c).In_ok-read) (c.in_ok-numbers.ensures a.answer.now)

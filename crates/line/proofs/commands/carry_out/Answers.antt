@@ -49,6 +49,3 @@ returns-in-Some-Remove c =
 
 pub returns-in-Some-Suite : goal.returns-in-Some-Suite
 returns-in-Some-Suite c = let h = none-on c.args.suite.now c.no.result c.no.ensures in search rules
-
-pub returns-in-None : goal.returns-in-None
-returns-in-None c = rw c.in-None.is (none-on c.args.suite.now c.no-in-None.result c.no-in-None.ensures)

@@ -1,41 +1,52 @@
--- `offer_above` goes up from the place next above the name. The invariant: the answer is what the entries from place i on offer.
+-- `offer_above` goes up from the place next above the name. The invariant: the answer is what the entries from this one on offer.
 use Rattle.std.specs.Prelude.{Some}
+use borrow.Rule.Slice.PartMut.{mid_of}
 use native.Mathlib.Omega.{arith}
 use mathlib.Core.Path.{◌≡◌, ap, ◌∙◌, sym}
 use mathlib.Core.Bool.{true, false}
+use Prim.Native.Nat.{◌≤◌, ◌-◌}
 use Rattle.member.specs.Tile.{entries}
+use Rattle.member.specs.Rounds.{bare_offer, first_offer}
+use Rattle.member.specs.Limits.{high}
 use Rattle.member.proofs.Seats.{next_le}
-use Rattle.member.proofs.Offers.{above_from, first_step, first_end}
+use Rattle.member.proofs.Offers.{above_from, rows_from, first_step, first_end}
 use Rattle.member.proofs.Member.offer_above.Goals as goal
 
-pub loop-i-init : goal.loop-i-init
-loop-i-init c =
+pub offset_bounds-self-from : goal.offset_bounds-self-from
+offset_bounds-self-from c = omega (arith, next_le (entries c.args.self.now) c.args.name)
+
+pub slice_bounds-row-items-count : goal.slice_bounds-row-items-count
+slice_bounds-row-items-count c = omega (arith, next_le (entries c.args.self.now) c.args.name)
+
+pub slice_bounds-row-items-start : goal.slice_bounds-row-items-start
+slice_bounds-row-items-start c =
+    let h : c.next-from.result ≤ c.used-n.result = omega (arith, next_le (entries c.args.self.now) c.args.name) in h
+
+pub loop-row-init : goal.loop-row-init
+loop-row-init c =
     let a = c.args in
-    let n = c.used-n.ensures in
-    let s = c.next-i.ensures in
-    (n.0, n.1, omega (arith, next_le (entries a.self.now) a.name), above_from a.self.now a.name a.k a.v _ s)
+    let m = a.self.now in
+    let i = c.next-from.result in
+    above_from m a.name a.k a.v i c.next-from.ensures
+    ∙ ap (first_offer a.k a.v (bare_offer high a.k)) (sym (rows_from m i c.used-n.result c.used-n.ensures.0 (omega (arith, next_le (entries m) a.name))))
 
 pub returns-then-is_offered : goal.returns-then-is_offered
 returns-then-is_offered c =
     let a = c.args in
+    let l = mid_of c.next-from.result (c.used-n.result - c.next-from.result) a.self.now.rows in
     let is : true ≡ _ = sym c.if-is_offered.true ∙ c.is_offered.ensures in
     ap Some c.bound_of.ensures
-    ∙ sym
-    (c.loop-i.invariant.3
-    ∙ first_step a.self.now a.k a.v c.loop-i.i _ _ true (omega arith) c.end_of.ensures is)
+    ∙ sym (c.loop-row.invariant ∙ first_step a.k a.v l c.loop-row.row-index _ _ true (omega arith) c.end_of.ensures is)
 
-pub loop-i-preserved : goal.loop-i-preserved
-loop-i-preserved c =
+pub loop-row-preserved : goal.loop-row-preserved
+loop-row-preserved c =
     let a = c.args in
-    let is-not : false ≡ _ = sym c.if-is_offered.false ∙ c.is_offered.ensures in (
-      c.loop-i.invariant.0,
-      c.loop-i.invariant.1,
-      omega arith,
-      c.loop-i.invariant.3
-          ∙ first_step a.self.now a.k a.v c.loop-i.i _ _ false (omega arith) c.end_of.ensures is-not,
-    )
+    let l = mid_of c.next-from.result (c.used-n.result - c.next-from.result) a.self.now.rows in
+    let is-not : false ≡ _ = sym c.if-is_offered.false ∙ c.is_offered.ensures in
+    c.loop-row.invariant ∙ first_step a.k a.v l c.loop-row.row-index _ _ false (omega arith) c.end_of.ensures is-not
 
 pub returns : goal.returns
 returns c =
     let a = c.args in
-    c.offer_end.ensures ∙ sym (c.loop-i.invariant.3 ∙ first_end a.k a.v _ (entries a.self.now) c.loop-i.i (omega arith))
+    let l = mid_of c.next-from.result (c.used-n.result - c.next-from.result) a.self.now.rows in
+    c.offer_end.ensures ∙ sym (c.loop-row.invariant ∙ first_end a.k a.v _ l c.loop-row.row-index (omega arith))

@@ -1,18 +1,28 @@
-use borrow.Author.Tests.{eq-eqb, ne_eqb, le-leb, lt-leb}
-use Rattle.member.specs.Search.{past_end}
+-- `past_end` looks past the place of a name; LOW and HIGH have no row, so nothing stands at them.
+use mathlib.Core.Path.{◌≡◌, sym, ◌∙◌}
+use Rattle.member.specs.Tile.{entries}
+use Rattle.member.proofs.Fits.{own, past_name_end, past_bare_end}
 use Rattle.member.proofs.Member.past_end.Goals as goal
 
--- src/search.rt:71:13
-pub returns-then-end-eq0 : goal.returns-then-end-eq0
-unfolding past_end
-returns-then-end-eq0 c = simp (eq-eqb c.args.end 0 c.if-end-eq0.true)
+pub overflow_sub-end : goal.overflow_sub-end
+overflow_sub-end c =
+    let e = c.args.end in
+    let o : own e ≡ 1 = sym c.rows_of.ensures.0 ∙ c.if-rows_of-eq1.true in
+    (past_name_end (entries c.args.self.now) e o).0
 
--- src/search.rt:74:13
-pub returns-then-end-ge-HIGH : goal.returns-then-end-ge-HIGH
-unfolding past_end
-returns-then-end-ge-HIGH c = simp (ne_eqb c.args.end 0 c.if-end-eq0.false, le-leb 1048577 c.args.end c.if-end-ge-HIGH.true) c.used.ensures.0
+pub next-requires : goal.next-requires
+next-requires c =
+    let e = c.args.end in
+    let o : own e ≡ 1 = sym c.rows_of.ensures.0 ∙ c.if-rows_of-eq1.true in
+    c.below_end-at.ensures ∙ (past_name_end (entries c.args.self.now) e o).1
 
--- src/search.rt:67:5
-pub returns : goal.returns
-unfolding past_end
-returns c = simp (ne_eqb c.args.end 0 c.if-end-eq0.false, lt-leb 1048577 c.args.end c.if-end-ge-HIGH.false) c.next.ensures
+pub returns-then-rows_of-eq1 : goal.returns-then-rows_of-eq1
+returns-then-rows_of-eq1 c =
+    let e = c.args.end in
+    let o : own e ≡ 1 = sym c.rows_of.ensures.0 ∙ c.if-rows_of-eq1.true in
+    c.next.ensures ∙ (past_name_end (entries c.args.self.now) e o).2
+
+pub returns-else-rows_of-eq1 : goal.returns-else-rows_of-eq1
+returns-else-rows_of-eq1 c =
+    c.below_end-at.ensures
+    ∙ past_bare_end (entries c.args.self.now) c.args.end (λ o. c.if-rows_of-eq1.false (c.rows_of.ensures.0 ∙ o))

@@ -9,7 +9,7 @@ use Rattle.member.specs.SearchLaws.{name_cut, below-le-length}
 use Rattle.member.proofs.Rows.{next-held_rows, next_other_rows}
 use Rattle.member.proofs.Writes.{write-held, write_new, write_full}
 use Rattle.member.proofs.Member.put.Goals as goal
-use Rattle.member.proofs.Member.put.Goals.{then-at-n+else-self-at, else-at-n}
+use Rattle.member.proofs.Member.put.Goals.{else-at-n-via-then-at-n+else-self-at, else-at-n-via-else-at-n}
 
 pub returns-then-self-at : goal.returns-then-self-at
 returns-then-self-at c =
@@ -38,9 +38,9 @@ returns-then-n-lt-SLOTS c =
     let n : length l ≡ c.used-n.result = sym c.used-n.ensures.0 in
     let s : i ≡ seat_in l a.name = c.seat-at.ensures in
     let t : i ≡ next_in l a.name =
-    elim c.if-at-n.branch [
-      | then-at-n+else-self-at w ↦ next_other_rows a.self.now a.name i s (λ h. w.if-self-at.false)
-      | else-at-n w ↦ next_other_rows a.self.now a.name i s (λ h e. omega arith)
+    elim c.else-at-n.branch [
+      | else-at-n-via-then-at-n+else-self-at w ↦ next_other_rows a.self.now a.name i s (λ h. w.if-self-at.false)
+      | else-at-n-via-else-at-n w ↦ next_other_rows a.self.now a.name i s (λ h e. omega arith)
     ] in
     let h : i ≤ length l = omega (arith, below-le-length (name_cut a.name) l) in
     c.insert.ensures
@@ -54,9 +54,9 @@ returns-else-n-lt-SLOTS c =
     let n : length l ≡ c.used-n.result = sym c.used-n.ensures.0 in
     let s : i ≡ seat_in l a.name = c.seat-at.ensures in
     let t : i ≡ next_in l a.name =
-    elim c.if-at-n.branch [
-      | then-at-n+else-self-at w ↦ next_other_rows a.self.now a.name i s (λ h. w.if-self-at.false)
-      | else-at-n w ↦ next_other_rows a.self.now a.name i s (λ h e. omega arith)
+    elim c.else-at-n.branch [
+      | else-at-n-via-then-at-n+else-self-at w ↦ next_other_rows a.self.now a.name i s (λ h. w.if-self-at.false)
+      | else-at-n-via-else-at-n w ↦ next_other_rows a.self.now a.name i s (λ h e. omega arith)
     ] in
     let h : i ≤ length l = omega (arith, below-le-length (name_cut a.name) l) in
     write_full a.self.now a.name a.version a.value i s t h (omega arith)

@@ -5,7 +5,7 @@ use Rattle.suite.specs.Sets.{chosen, all}
 use Rattle.suite.proofs.SetFolds.{every-on, every-stop, every-passed, every-past}
 use Rattle.suite.proofs.Asking.{counted}
 use Rattle.suite.proofs.Suite.all_fit.Goals as goal
-use Rattle.suite.proofs.Suite.all_fit.Goals.{then-left-eq1+else-not-fits, else-left-eq1}
+use Rattle.suite.proofs.Suite.all_fit.Goals.{else-left-eq1-via-then-left-eq1+else-not-fits, else-left-eq1-via-else-left-eq1}
 
 abbrev nobody : Member
 nobody = record { low = 0; count = 0; rows = [] }
@@ -24,11 +24,11 @@ pub loop-member-preserved : goal.loop-member-preserved
 loop-member-preserved g c room says =
     let k = c.loop-member in
     let items = take c.size-n.result c.args.self.now.members in
-    elim c.if-left-eq1.branch [
-      | then-left-eq1+else-not-fits w ↦
+    elim c.else-left-eq1.branch [
+      | else-left-eq1-via-then-left-eq1+else-not-fits w ↦
           let said = says _ _ (record { shown = _; shows = refl; says = record { met = w.fits.ensures } }) in
           k.invariant room says ∙ every-on room items k.member-index k.left nobody c.loop-member-test.true w.if-left-eq1.true (sym said ∙ w.if-not-fits.false)
-      | else-left-eq1 w ↦ k.invariant room says ∙ every-passed room items k.member-index k.left nobody c.loop-member-test.true w.if-left-eq1.false
+      | else-left-eq1-via-else-left-eq1 w ↦ k.invariant room says ∙ every-passed room items k.member-index k.left nobody c.loop-member-test.true w.if-left-eq1.false
     ]
 
 pub returns : goal.returns
