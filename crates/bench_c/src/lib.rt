@@ -5,7 +5,7 @@
 ghost use Rattle.std.specs.Prelude.{◌≡◌};
 ghost use Rattle.bench.specs.Bench.{stepped, bench_of};
 
-// `bench::directory_step`, with its clauses: 0, or the number of the refusal.
+// `bench::directory_step`, its answer as C takes it: 0, or the number of the refusal.
 #[unsafe(no_mangle)]
 pub extern "C" fn directory_step(
     operation: u32,

@@ -1,6 +1,6 @@
 // The suites that the examples start from.
 use crate::calls::{create, del, ins};
-use member::{Member, Row};
+use member::{Bound, Member, Name, Row};
 use std::io;
 use suite::Suite;
 
@@ -24,6 +24,25 @@ pub(crate) fn holding_five(below: u32, version: u32, above: u32) -> Member {
         value: 1,
         gap: above,
     })
+}
+
+// A member whose one entry was dropped: its place holds zero again.
+pub(crate) fn emptied() -> Member {
+    holding_five(0, 1, 0).drop(0)
+}
+
+// A member whose one entry fell when LOW..HIGH was coalesced, with the version that its gap got.
+pub(crate) fn swept(gap: u32) -> Member {
+    let low = Bound {
+        end: 0,
+        version: 0,
+        value: 0,
+    };
+    let high = Bound {
+        end: Name::HIGH,
+        ..low
+    };
+    holding_five(0, 1, 0).coalesce(low, high, gap)
 }
 
 // The names from `many` down to 1, the even ones to one write set and the odd ones to the other.

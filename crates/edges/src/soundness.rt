@@ -1,5 +1,5 @@
 // Refusal 1: clauses of soundness, each broken alone and, beside it, held at its edge. The suites are made by hand.
-use crate::build::{alone, holding_five};
+use crate::build::{alone, emptied, holding_five, swept};
 use crate::calls::{create, each, look};
 use crate::say::title;
 use member::{Member, Name, Version};
@@ -55,7 +55,7 @@ pub(crate) fn places(rt: &impl Print) -> io::Result<()> {
         rt,
         "an unused place with a vote, a gap's version, an entry; then a vote and an entry in use",
     )?;
-    look(rt, &with_places(rt, 15, 1, 1, Member::fresh())?, 1, 5)?;
+    look(rt, &with_places(rt, 15, 1, 1, emptied())?, 1, 5)?;
     look(rt, &with_places(rt, 15, 1, 0, Member::empty(1))?, 1, 5)?;
     look(rt, &with_places(rt, 15, 1, 0, holding_five(0, 1, 0))?, 1, 5)?;
     look(rt, &with_places(rt, 14, 2, 1, holding_five(0, 1, 0))?, 3, 5)?;
@@ -79,8 +79,8 @@ pub(crate) fn members(rt: &impl Print) -> io::Result<()> {
         5,
     )?;
     title(rt, "a gap of version 16777215, 16777216")?;
-    look(rt, &alone(rt, Member::empty(Version::LARGEST))?, 1, 5)?;
-    look(rt, &alone(rt, Member::empty(Version::LARGEST + 1))?, 1, 5)?;
+    look(rt, &alone(rt, swept(Version::LARGEST))?, 1, 5)?;
+    look(rt, &alone(rt, swept(Version::LARGEST + 1))?, 1, 5)?;
     title(rt, "an entry of name 1048575, 1048576")?;
     look(
         rt,

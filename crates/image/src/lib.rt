@@ -47,7 +47,7 @@ pub fn fill(image: &[u8], out: &mut [u8]) -> Result<usize, Refusal>
     if out.len() < image.len() {
         return Err(Refusal::Buffer);
     }
-    out[..image.len()].copy_from_slice(image);
+    writer::copy(image, out);
     Ok(image.len())
 }
 

@@ -24,7 +24,7 @@ pub(crate) fn field(bytes: &[u8], at: usize, width: u32) -> Result<u32, Refusal>
     Ok(value as u32)
 }
 
-// A member, into a member that is fresh. Answers where the next field starts, as those below.
+// A member, into a member that is fresh. Answers where the next field starts, as the readers of members and of all below.
 fn read_member(bytes: &[u8], at: usize, member: &mut Member) -> Result<usize, Refusal>
     requires { (at ≤ 21000) × (member.old ≡ fresh_tile) }
     ensures { (placed_of result member.new ≡ read_member bytes.now name_width at) × ends_by result (at + 2718) }

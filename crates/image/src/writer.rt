@@ -1,6 +1,6 @@
 // The fields of an image, put one after another. What a function requires of `at` keeps the sums of places from wrapping, and what
 // it requires of the bytes is room for its fields and eight bytes more: a field is put with what follows it in eight bytes.
-ghost use Rattle.std.specs.Prelude.{◌≡◌, ◌+◌, ◌*◌, ◌≤◌, length};
+ghost use Rattle.std.specs.Prelude.{◌≡◌, ◌++◌, ◌+◌, ◌*◌, ◌≤◌, length, drop};
 ghost use mathlib.Core.List.{map, flat_map};
 ghost use Rattle.member.specs.Tile.{entries};
 ghost use Rattle.image.specs.Layout.{name_width, row_pieces, member_pieces, vote_pieces, suite_pieces, widths};
@@ -89,4 +89,15 @@ pub(crate) fn put_suite(out: &mut [u8], suite: &Suite) -> usize
     fields::append(out, 14, 7, u64::from(suite.write));
     let next = put_votes(out, 21, &suite.votes[..size]);
     put_members(out, next, &suite.members[..size])
+}
+
+// Bytes copied to the start of others, one by one: the library's own copy of as many as come asks for `memmove`, which the archive for
+// C does without.
+pub(crate) fn copy(from: &[u8], to: &mut [u8])
+    requires { length from.now ≤ length to.old }
+    ensures { to.new ≡ from.now ++ drop (length from.now) to.old }
+{
+    for (i, byte) in from.iter().enumerate() {
+        to[i] = *byte;
+    }
 }

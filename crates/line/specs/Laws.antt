@@ -15,8 +15,7 @@ use Rattle.suite.specs.Kept.{step_kept}
 use Rattle.suite.specs.Create.{fresh_suite, not_created, create_of}
 use Rattle.suite.specs.CreateLaws.{created-sound}
 use Rattle.suite.specs.declared.Suite.{Suite}
-use Rattle.line.specs.Standing.{Standing, Answer, call_for, on_suite, creation_for, created, without_suite, answer_of}
-use Rattle.line.specs.Lent.{standing_in}
+use Rattle.line.specs.Standing.{Standing, Answer, fresh, call_for, on_suite, creation_for, created, without_suite, answer_of}
 
 module _ (t : Standing) (line : List ℕ) where
   abbrev pub on_accepted : Answer
@@ -58,8 +57,8 @@ abbrev pub Fine : Standing → Type 0
 Fine t = t.made ≡ true → sound_suite t.suite ≡ true
 
 -- before any line none was
-pub fresh_fine : Fine (standing_in None)
-fresh_fine h = not_both [] 0 (ap (λ (b : Bool). cond b (refused 0) (answered [])) h)
+pub fresh_fine : (s : Suite) → Fine (fresh s)
+fresh_fine s h = not_both [] 0 (ap (λ (b : Bool). cond b (refused 0) (answered [])) h)
 
 fine_on : (s : Suite) (c : Option Call) → sound_suite s ≡ true → Fine (on_suite s c).standing
 unfolding on_suite

@@ -1,16 +1,13 @@
 -- What stands, where a suite was accepted or none.
-use Rattle.std.specs.Prelude.{Option, None, Some, Result, Ok, Err, false}
+use Rattle.std.specs.Prelude.{Option, None, Some}
 use Rattle.text.specs.declared.Command.{Command}
 use Rattle.text.specs.declared.Reply.{Reply}
-use Rattle.text.specs.declared.Reply.TheVariants.{SuiteOk, Refused}
-use Rattle.suite.specs.Outcome.{number_of}
 use Rattle.suite.specs.Create.{blank}
-use Rattle.suite.specs.declared.Refusal.{Refusal}
 use Rattle.suite.specs.declared.Suite.{Suite}
-use Rattle.line.specs.Standing.{Standing, Answer, accepted, call_for, on_suite}
+use Rattle.line.specs.Standing.{Standing, Answer, accepted, fresh, call_for, on_suite}
 
 abbrev pub standing_in : Option Suite → Standing
-standing_in None = record { made = false; suite = blank }
+standing_in None = fresh blank
 standing_in (Some s) = accepted s
 
 abbrev pub answer_in : Reply → Option Suite → Answer
@@ -23,8 +20,3 @@ reply_in r s = record { reply = r; standing = accepted s }
 -- what a command comes to there
 abbrev pub carried_out : Suite → Option Command → Answer
 carried_out s k = on_suite s (call_for s k)
-
--- where none was: a suite is accepted, or refused
-abbrev pub first_answer : Result Suite Refusal → Answer
-first_answer (Ok s) = answer_in SuiteOk (Some s)
-first_answer (Err r) = answer_in (Refused (number_of r)) None

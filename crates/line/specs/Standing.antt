@@ -1,5 +1,5 @@
 -- What a line is answered, and what it leaves. The rules paper, "Line program".
-use Rattle.std.specs.Prelude.{ℕ, ◌-◌, ◌^◌, List, Option, None, Some, Bool, true, cond, length, take, get_or, ltb, eqb}
+use Rattle.std.specs.Prelude.{ℕ, ◌-◌, ◌^◌, List, Option, None, Some, Bool, true, false, cond, length, take, get_or, ltb, eqb}
 use Rattle.text.specs.Line.{command_of, ballots_of}
 use Rattle.text.specs.declared.Members.{Members}
 use Rattle.text.specs.declared.Members.TheVariants.{Everyone, Only}
@@ -26,6 +26,10 @@ pub record Answer : Type 0 where
 
 abbrev pub accepted : Suite → Standing
 accepted s = record { made = true; suite = s }
+
+-- none was, whatever suite is named beside
+abbrev pub fresh : Suite → Standing
+fresh s = record { made = false; suite = s }
 
 -- "A set written `-` means all members": as many as there are votes
 abbrev pub set_of : List ℕ → Members → ℕ

@@ -9,7 +9,7 @@ ghost use Rattle.std.specs.Prelude.{◌≡◌};
 ghost use Rattle.line.specs.Standing.{accepted, answer_of};
 ghost use Rattle.line.specs.Lent.{standing_in, answer_in, reply_in};
 
-use suite::Suite;
+use suite::{Refusal, Suite};
 use text::Reply;
 
 // The answer to one line on a suite that was accepted, for a holder that knows it to be sound: refusal 1 is judged once for
@@ -27,5 +27,8 @@ pub fn answer_unchecked(standing: &mut Option<Suite>, line: &[u8]) -> Reply
     if let Some(suite) = standing {
         return reply_unchecked(suite, line);
     }
-    creation::begin(standing, text::ballots(line))
+    match text::ballots(line) {
+        Some(asked) => creation::begin(standing, asked),
+        None => reply::no(Refusal::NotUnderstood),
+    }
 }

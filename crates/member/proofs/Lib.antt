@@ -1,3 +1,5 @@
+pub mod Filled
+pub mod Cells
 pub mod Rows
 pub mod Seats
 pub mod Offers

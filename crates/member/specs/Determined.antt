@@ -1,7 +1,8 @@
 -- Any two outcomes that the contract of a public function allows are equal: a theorem for each, with the contract's own text.
-use Rattle.std.specs.Prelude.{◌≡◌, ℕ, ◌≤◌, min, length}
-use Rattle.std.proofs.Common.{sym, ◌∙◌}
-use Rattle.member.specs.Tile.{fresh_tile, empty_tile, entries, reading_of, row_of}
+use Rattle.std.specs.Prelude.{◌≡◌, refl, List, [], ◌∷◌, ℕ, zero, suc, ◌*◌, ◌≤◌, min, length, get_or, drop}
+use Rattle.std.proofs.Common.{ap, sym, ◌∙◌, arith, length-drop}
+use Rattle.member.specs.Tile.{none, fresh_tile, empty_tile, entries, reading_of, row_of}
+use Rattle.member.specs.Cells.{row_at, rows_in, tile_in}
 use Rattle.member.specs.Search.{end_of}
 use Rattle.member.specs.Rounds.{around_of, below_of, above_of, offer_below_of, offer_above_of}
 use Rattle.member.specs.Change.{write_of, drop_of, coalesce_of, append_of, fits_write, fits_coalesce}
@@ -35,9 +36,49 @@ in_range_determined row = same (in_range row)
 pub is_none_determined : (row : Row) → Determines (λ r. r ≡ is_none row)
 is_none_determined row = same (is_none row)
 
+pub of_determined : (cells : List ℕ) → Determines (λ r. r ≡ tile_in cells)
+of_determined cells = same (tile_in cells)
+
 -- a member is all that its fields say
-pub one_tile : (a b : Member) → a.low ≡ b.low → a.count ≡ b.count → a.rows ≡ b.rows → a ≡ b
-one_tile a b l c r = λ j. record { low = l j; count = c j; rows = r j }
+pub one_member : (a b : Member) → a.low ≡ b.low → a.count ≡ b.count → a.rows ≡ b.rows → a ≡ b
+one_member a b l c r = λ j. record { low = l j; count = c j; rows = r j }
+
+-- a row's cells, and what follows them
+abbrev cells_of : Row → List ℕ → List ℕ
+cells_of r l = r.name ∷ (r.version ∷ (r.value ∷ (r.gap ∷ l)))
+
+begins : (l : List ℕ) → 4 ≤ length l → l ≡ cells_of (row_at l) (drop 4 l)
+begins [] h = absurd (omega arith)
+begins (a ∷ []) h = absurd (omega arith)
+begins (a ∷ (b ∷ [])) h = absurd (omega arith)
+begins (a ∷ (b ∷ (c ∷ []))) h = absurd (omega arith)
+begins (a ∷ (b ∷ (c ∷ (d ∷ l)))) h = refl
+
+no_cells : (l : List ℕ) → length l ≡ 0 → l ≡ []
+no_cells [] h = refl
+no_cells (a ∷ l) h = absurd (omega arith)
+
+rows_cells : (n : ℕ) (a b : List ℕ) → length a ≡ 4 * n → length b ≡ 4 * n → rows_in n a ≡ rows_in n b → a ≡ b
+unfolding rows_in
+rows_cells zero a b h k e = no_cells a h ∙ sym (no_cells b k)
+rows_cells (suc n) a b h k e =
+    let r : row_at a ≡ row_at b = ap (λ (l : List Row). get_or l 0 none) e in
+    let t : drop 4 a ≡ drop 4 b =
+    rows_cells n (drop 4 a) (drop 4 b) (omega (arith, length-drop 4 a)) (omega (arith, length-drop 4 b)) (ap (λ (l : List Row). drop 1 l) e) in
+    begins a (omega arith) ∙ (λ j. cells_of (r j) (t j)) ∙ sym (begins b (omega arith))
+
+-- the count and the lowest gap stand in front of the rows
+fronted : (l : List ℕ) → 2 ≤ length l → l ≡ (tile_in l).count ∷ ((tile_in l).low ∷ drop 2 l)
+fronted [] h = absurd (omega arith)
+fronted (a ∷ []) h = absurd (omega arith)
+fronted (a ∷ (b ∷ l)) h = refl
+
+-- no two tiles are one member
+pub one_tile : (a b : List ℕ) → tile_in a ≡ tile_in b → length a ≡ 130 → length b ≡ 130 → a ≡ b
+one_tile a b e h k =
+    let t : drop 2 a ≡ drop 2 b =
+    rows_cells 32 (drop 2 a) (drop 2 b) (omega (arith, length-drop 2 a)) (omega (arith, length-drop 2 b)) (ap (λ (m : Member). m.rows) e) in
+    fronted a (omega arith) ∙ (λ j. (e j).count ∷ ((e j).low ∷ t j)) ∙ sym (fronted b (omega arith))
 
 module _ (m : Member) where
   pub used-determined : Determines (λ r. (r ≡ length (entries m)) × (r ≤ 32))

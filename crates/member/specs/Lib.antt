@@ -1,5 +1,6 @@
 pub mod Limits
 pub mod Tile
+pub mod Cells
 pub mod Search
 pub mod Rounds
 pub mod Change

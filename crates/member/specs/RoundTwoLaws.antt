@@ -58,7 +58,7 @@ module _ (k v g : ℕ) (r : Row) (l : List Row) (i : InRange r) where
       let apart : place k ≢ row_place r = λ e. q.0 (omega arith) in
       rw (read_same g r l z h) ((λ e. apart (omega arith)), q.1 (far apart))
 
--- where a member answers Nothing, no place is offered
+-- where a member answers None, no place is offered
 passed_not : (k v y : ℕ) (r : Reading) → Passed k v y r → (y ≡ k) ⊎ (v < version r) → ⊥
 passed_not k v y r p (inl e) = p.0 e
 passed_not k v y r p (inr h) = omega (arith, p.1)

@@ -1,11 +1,35 @@
-// What the image layer needs of a member: its rows one after another, and a member built up of rows, one store after another.
+// What the image layer needs of a member: its rows one after another, and a member built up of rows, one store after another. And
+// the member that a tile's memory holds.
 ghost use Rattle.std.specs.Prelude.{◌≡◌, min};
 ghost use Rattle.member.specs.Tile.{row_of};
+ghost use Rattle.member.specs.Cells.{tile_in};
 ghost use Rattle.member.specs.Steps.{with_row, with_low, with_count};
 
 use crate::{Member, Row};
 
 impl Member {
+    // The member that a tile's memory holds, whatever stands there: the count of its entries, the version of the gap above LOW, and
+    // four numbers for each place, name, version, value and version of the gap above.
+    pub fn of(cells: &[u32; 130]) -> Member
+        ensures { result ≡ tile_in cells.now }
+    {
+        let mut rows = [Row::NONE; Member::SLOTS];
+        for (i, row) in rows.iter_mut().enumerate() {
+            let at = 4 * i + 2;
+            *row = Row {
+                name: cells[at],
+                version: cells[at + 1],
+                value: cells[at + 2],
+                gap: cells[at + 3],
+            };
+        }
+        Member {
+            low: cells[1],
+            count: cells[0] as usize,
+            rows,
+        }
+    }
+
     // The entry in place i, counted from the lowest; past the last, what an unused place holds.
     pub fn entry(&self, i: usize) -> Row
         ensures { result ≡ row_of self.now i }

@@ -1,6 +1,6 @@
 // The answers to the two rounds of a neighbour query.
 ghost use Rattle.std.specs.Prelude.{◌≡◌};
-ghost use Rattle.member.specs.Rounds.{around_of, offered, bound_of, bare_offer, offer_below_of, offer_above_of};
+ghost use Rattle.member.specs.Rounds.{around_of, below_of, above_of, offered, bound_of, bare_offer, offer_below_of, offer_above_of};
 ghost use Rattle.member.specs.Search.{seat_in};
 ghost use Rattle.member.specs.Tile.{entries};
 
@@ -60,6 +60,20 @@ impl Member {
         }
     }
 
+    // Of round one the gap next below the name alone: its version and its lower end.
+    pub fn below(&self, name: u32) -> Side
+        ensures { result ≡ below_of self.now name }
+    {
+        self.around(name).below
+    }
+
+    // The gap next above the name: its version and its upper end.
+    pub fn above(&self, name: u32) -> Side
+        ensures { result ≡ above_of self.now name }
+    {
+        self.around(name).above
+    }
+
     // Round two, for the gaps that round one found next below and next above the name.
     pub fn offers(&self, name: u32, below: Side, above: Side) -> Offered
         ensures { result ≡ record {
@@ -69,14 +83,28 @@ impl Member {
     {
         let at = self.seat(name);
         Offered {
-            below: self.offer_below(at, name, below.end, below.version),
-            above: self.offer_above(at, name, above.end, above.version),
+            below: self.offer_below_at(at, name, below.end, below.version),
+            above: self.offer_above_at(at, name, above.end, above.version),
         }
+    }
+
+    // Of round two the entry below the name alone, for the end k and the version v of a gap.
+    pub fn offer_below(&self, name: u32, k: u32, v: u32) -> Option<Bound>
+        ensures { result ≡ offer_below_of self.now name k v }
+    {
+        self.offer_below_at(self.seat(name), name, k, v)
+    }
+
+    // The entry above the name alone.
+    pub fn offer_above(&self, name: u32, k: u32, v: u32) -> Option<Bound>
+        ensures { result ≡ offer_above_of self.now name k v }
+    {
+        self.offer_above_at(self.seat(name), name, k, v)
     }
 
     // Round two below: the greatest entry from k up to but not the name that is k itself or has a version above v, for a name that
     // has `at` entries below it.
-    fn offer_below(&self, at: usize, name: u32, k: u32, v: u32) -> Option<Bound>
+    fn offer_below_at(&self, at: usize, name: u32, k: u32, v: u32) -> Option<Bound>
         requires { at ≡ seat_in (entries self.now) name }
         ensures { result ≡ offer_below_of self.now name k v }
     {
@@ -90,7 +118,7 @@ impl Member {
     }
 
     // Round two above: the least entry from k down to but not the name that is k itself or has a version above v.
-    fn offer_above(&self, at: usize, name: u32, k: u32, v: u32) -> Option<Bound>
+    fn offer_above_at(&self, at: usize, name: u32, k: u32, v: u32) -> Option<Bound>
         requires { at ≡ seat_in (entries self.now) name }
         ensures { result ≡ offer_above_of self.now name k v }
     {

@@ -21,7 +21,7 @@ use Rattle.suite.specs.Agree.{call_sound, step_keeps}
 use Rattle.suite.specs.Requests.{requests_of}
 use Rattle.suite.specs.Create.{fresh_suite, not_created, create_of}
 use Rattle.suite.specs.declared.Suite.{Suite}
-use Rattle.line.specs.Standing.{Standing, accepted, set_of, call_for, found, spoken, replied, on_suite, creation_for, created, without_suite, answer_of}
+use Rattle.line.specs.Standing.{Standing, fresh, accepted, set_of, call_for, found, spoken, replied, on_suite, creation_for, created, without_suite, answer_of}
 use Rattle.history.specs.Directory.{Directory}
 use Rattle.history.specs.Directory as plain
 use Rattle.history.specs.Run.{Reached, called, applied, follow}
@@ -30,7 +30,7 @@ use Rattle.history.specs.Told.{own_refusal, limit_refusal, first, refusal_of, fl
 use Rattle.history.proofs.ToldLaws.{answered-told}
 use Rattle.history.proofs.Goes.{first-zero}
 use Rattle.history.proofs.Theorems.{faithful, reached_sound}
-use Rattle.spoken.specs.Lines.{fresh, Lined, nothing, suited, told_on, told, next_on, next}
+use Rattle.spoken.specs.Lines.{Lined, nothing, suited, told_on, told, next_on, next}
 use Rattle.spoken.specs.Says.{Says, SaysOf}
 
 -- A call on a suite that is reached.

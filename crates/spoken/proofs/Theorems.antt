@@ -1,15 +1,14 @@
 -- A run of lines is answered as the plain directory tells, which got the accepted changes in order: its `at`, `none`, `near`, `ok` and `no`.
 -- The theorems; Lines has the definitions, and a line's answer is that of the line's contract.
-use Rattle.std.specs.Prelude.{◌≡◌, refl, ◌⊎◌, List, [], ◌∷◌, None, Some, true, false, ℕ}
+use Rattle.std.specs.Prelude.{◌≡◌, refl, ◌⊎◌, List, [], ◌∷◌, Some, true, false, ℕ}
 use Rattle.std.proofs.Common.{subst}
 use Rattle.text.specs.Line.{command_of}
 use Rattle.text.specs.declared.Members.{Members}
 use Rattle.text.specs.declared.Command.TheVariants as command
 use Rattle.text.specs.declared.Reply.{Reply}
 use Rattle.text.specs.declared.Reply.TheVariants.{SuiteOk, Ok, Removed, At, Absent, Near, Refused}
-use Rattle.suite.specs.Create.{blank}
-use Rattle.line.specs.Standing.{Standing, answer_of}
-use Rattle.line.specs.Lent.{standing_in}
+use Rattle.suite.specs.declared.Suite.{Suite}
+use Rattle.line.specs.Standing.{Standing, fresh, answer_of}
 use Rattle.history.specs.Directory.{Directory}
 use Rattle.history.specs.Directory as plain
 use Rattle.spoken.specs.Lines.{Lined, nothing, told, next, replies, standing_after, tells, directory_after}
@@ -35,9 +34,10 @@ lines_faithful p [] = refl
 lines_faithful {t = t} {d = d} p (line ∷ l) =
     let r = line_faithful p line in λ j. r.0 j ∷ lines_faithful {t = (answer_of t line).standing} {d = next t d line} r.1 l j
 
--- above all from the beginning, where nothing stands, with the empty directory.
-pub from_beginning : (l : List (List ℕ)) → replies (standing_in None) l ≡ tells (standing_in None) [] l
-from_beginning l = lines_faithful (nothing blank) l
+-- above all from the beginning, where no suite was accepted, whichever is named beside (`standing_in None` names the blank one), with
+-- the empty directory.
+pub from_beginning : (s : Suite) (l : List (List ℕ)) → replies (fresh s) l ≡ tells (fresh s) [] l
+from_beginning s l = lines_faithful (nothing s) l
 
 module _ {t : Standing} {d : Directory} (p : Lined t d) (line : List ℕ) where
   says_of : (r : Reply) → (answer_of t line).reply ≡ r → SaysOf t d line r

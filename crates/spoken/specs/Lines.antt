@@ -1,18 +1,14 @@
 -- A run of lines, with the plain directory beside what stands.
-use Rattle.std.specs.Prelude.{List, [], ◌∷◌, Option, None, Some, false, cond, ℕ}
+use Rattle.std.specs.Prelude.{List, [], ◌∷◌, Option, None, Some, cond, ℕ}
 use Rattle.text.specs.Line.{command_of, ballots_of}
 use Rattle.text.specs.declared.Reply.{Reply}
 use Rattle.text.specs.declared.Reply.TheVariants.{Refused}
 use Rattle.suite.specs.Calls.{Call}
 use Rattle.suite.specs.declared.Suite.{Suite}
-use Rattle.line.specs.Standing.{Standing, accepted, call_for, spoken, replied, creation_for, without_suite, answer_of}
+use Rattle.line.specs.Standing.{Standing, accepted, fresh, call_for, spoken, replied, creation_for, without_suite, answer_of}
 use Rattle.history.specs.Directory.{Directory}
 use Rattle.history.specs.Run.{Reached, follow}
 use Rattle.history.specs.Told.{told_of}
-
--- before any line, whatever stands in the places of a suite
-abbrev pub fresh : Suite → Standing
-fresh s = record { made = false; suite = s }
 
 -- What lines come to, with the plain directory of their history: no suite was accepted yet, and the directory is empty; or a suite
 -- stands that a run of calls reaches.

@@ -2,13 +2,16 @@
 use Rattle.member.specs.declared.Bound.{Bound}
 use Rattle.std.specs.Prelude.{Option}
 use Rattle.std.specs.Prelude as prelude
-use Rattle.std.specs.Prelude.{Ok, Err, ◌≡◌, refl, List, [], ◌∷◌, cond, ℕ, ◌-◌, ◌^◌, ◌≤◌, length, get_or}
-use Rattle.std.proofs.Common.{sym, ap, ◌∙◌}
-use Rattle.member.specs.Determined.{Determines, same}
+use Rattle.std.specs.Prelude.{Ok, Err, ◌≡◌, refl, List, [], ◌∷◌, cond, ℕ, ◌-◌, ◌^◌, ◌≤◌, ◌<◌, length, get_or}
+use Rattle.std.proofs.Common.{sym, ap, ◌∙◌, arith, ext_get_or}
+use Rattle.std.proofs.Math.ListN.{get_or-map}
+use Rattle.member.specs.Cells.{tile_in}
+use Rattle.member.specs.Determined.{Determines, same, one_tile}
 use Rattle.member.specs.declared.Reading.{Reading}
 use Rattle.member.specs.declared.Reading.TheVariants.{Entry, Gap}
 use Rattle.member.specs.declared.Around.{Around}
 use Rattle.suite.specs.Suite.{tiles, ballots, frame_of, ballots_in, sound_frame, sound_suite}
+use Rattle.suite.specs.Cells.{suite_in}
 use Rattle.suite.specs.Rows.{row_reading, around_row, offers_row}
 use Rattle.suite.specs.Outcome.{answered, number_of, reading_values, looked_of, near_of, change_of, judged_of}
 use Rattle.suite.specs.OutcomeLaws.{refused_is, not_both}
@@ -137,10 +140,28 @@ created-tells (Ok a) (Err r) e = not_both [] (number_of r) (outcomes e)
 created-tells (Err r) (Ok a) e = not_both [] (number_of r) (sym (outcomes e))
 created-tells (Err a) (Err b) e = ap Err (number_tells a b (refused_is (number_of a) (number_of b) (outcomes e)))
 
--- The public functions. A call and its unchecked form have one contract each: `run` is `call_of` for the one and `step_of` for the other.
 -- no two suites have one frame and the same members
-pub one_suite : (s t : Suite) → frame_of s ≡ frame_of t → s.members ≡ t.members → s ≡ t
-one_suite s t f m = λ j. record { members = m j; votes = (f j).votes; read = (f j).read; write = (f j).write; count = (f j).count }
+pub whole_suite : (s t : Suite) → frame_of s ≡ frame_of t → s.members ≡ t.members → s ≡ t
+whole_suite s t f m = λ j. record { members = m j; votes = (f j).votes; read = (f j).read; write = (f j).write; count = (f j).count }
+
+-- what `[[u32; 130]; 8]` says of a list
+pub record Tiles (l : List (List ℕ)) : Type 0 where
+  pub eight : length l ≡ 8
+  pub cells : (i : ℕ) → i < 8 → length (get_or l i []) ≡ 130
+
+-- no two lists of eight tiles are one suite
+pub one_suite : (f : Frame) (a b : List (List ℕ)) → Tiles a → Tiles b → suite_in f a ≡ suite_in f b → a ≡ b
+one_suite f a b h k e =
+    ext_get_or [] a b (h.eight ∙ sym k.eight)
+    (λ i n.
+    let m : i < 8 = omega (arith, h.eight) in
+    let t : tile_in (get_or a i []) ≡ tile_in (get_or b i []) =
+    sym (get_or-map tile_in a i []) ∙ ap (λ (s : Suite). get_or s.members i (tile_in [])) e ∙ get_or-map tile_in b i [] in
+    one_tile (get_or a i []) (get_or b i []) t (h.cells i m) (k.cells i m))
+
+-- The public functions. A call and its unchecked form have one contract each: `run` is `call_of` for the one and `step_of` for the other.
+pub of_determined : (f : Frame) (lent : List (List ℕ)) → Determines (λ r. r ≡ suite_in f lent)
+of_determined f lent = same (suite_in f lent)
 
 module _ (run : Suite → Call → Result) (s : Suite) where
   pub lookup-determined : (set name : ℕ) → Determines (λ r. looked_of r ≡ (run s (lookup set name)).outcome)

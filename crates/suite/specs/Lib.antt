@@ -3,6 +3,7 @@ pub mod Question
 pub mod Best
 pub mod Sets
 pub mod Suite
+pub mod Cells
 pub mod Outcome
 pub mod Calls
 pub mod Rows

@@ -1,4 +1,4 @@
-// Asking members, and changing them: one loop for every question, one for whether a change fits, one for every change.
+// Asking members, and changing them: one loop for the questions of both rounds, one for whether a change fits, one for every change.
 ghost use Rattle.std.specs.Prelude.{◌≡◌, ◌++◌, ◌≤◌, List, ℕ, Bool, take, drop};
 ghost use Rattle.member.specs.declared.Member.{Member};
 ghost use Rattle.suite.specs.Sets.{chosen, changed, all};

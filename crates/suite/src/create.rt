@@ -1,10 +1,11 @@
-// Creation takes R, W and a list of votes, one for each member; all members start fresh.
+// Creation takes R, W and a list of votes, one for each member; all members start fresh. And the suite that tiles' memory holds.
 ghost use Rattle.std.specs.Prelude.{◌≡◌, ◌≤◌, length};
 ghost use Rattle.suite.specs.Sets.{all};
 ghost use Rattle.suite.specs.Suite.{small_vote};
+ghost use Rattle.suite.specs.Cells.{suite_in};
 ghost use Rattle.suite.specs.Create.{blank, padded, create_of, created_of};
 
-use crate::{Refusal, Suite};
+use crate::{Frame, Refusal, Suite};
 use member::Member;
 
 // Is no vote over 15?
@@ -35,6 +36,29 @@ impl Suite {
             read: 0,
             write: 0,
             count: 0,
+        }
+    }
+
+    // The suite that eight tiles' memory holds, whatever stands there, with the votes, R, W and the count beside it.
+    pub fn of(frame: Frame, lent: &[[u32; 130]; 8]) -> Suite
+        ensures { result ≡ suite_in frame lent.now }
+    {
+        let mut members = [Member::fresh(); 8];
+        for (i, member) in members.iter_mut().enumerate() {
+            *member = Member::of(&lent[i]);
+        }
+        let Frame {
+            votes,
+            read,
+            write,
+            count,
+        } = frame;
+        Suite {
+            members,
+            votes,
+            read,
+            write,
+            count,
         }
     }
 

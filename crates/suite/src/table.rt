@@ -1,6 +1,5 @@
 // The answers of a round stand in one table, a row for each member: eight numbers. The row of
-//   a reading:   present, version, value;
-//   round one:   present, version, value, then version and lower end of the gap below, version and upper end of the gap above;
+//   round one:   the reading (present, version, value), then version and lower end of the gap below, version and upper end of the gap above;
 //   round two:   rank, end, version, value of the entry offered below, then of the one offered above; the rank is the greater
 //                the nearer the entry is to the name, and 0 where none is offered or its end is past HIGH;
 // with zeros in the places left, and in the rows of members that were not asked.

@@ -1,8 +1,7 @@
 -- `fill` copies the image where it fits.
-use Prim.Native.Nat.{ℕ}
-use mathlib.Core.Path.{◌≡◌, sym, ap, ◌∙◌}
-use mathlib.Core.List.{List, [], ◌∷◌, ◌++◌}
-use lib.ListN.{length, drop}
+use mathlib.Core.Path.{sym, ◌∙◌}
+use mathlib.Core.List.{[], ◌∷◌}
+use lib.ListN.{length}
 use Rattle.suite.specs.Outcome.{answered}
 use Rattle.image.proofs.Writing.{fill_short, fill_fits}
 use Rattle.image.proofs.fill.Goals as goal
@@ -15,7 +14,5 @@ returns-then-out-image c =
 pub returns : goal.returns
 returns c =
     let a = c.args in
-    let n = length a.image.now in
-    let e : c.copy_from_slice.new.self ++ drop n a.out.now ≡ a.image.now ++ drop n a.out.now = ap (λ (l : List ℕ). l ++ drop n a.out.now) c.copy_from_slice.ensures.after in
-    (λ j. record { outcome = answered (length a.image.now ∷ []); bytes = e j })
+    (λ j. record { outcome = answered (length a.image.now ∷ []); bytes = c.copy.ensures j })
     ∙ sym (fill_fits a.image.now a.out.now c.if-out-image.false)

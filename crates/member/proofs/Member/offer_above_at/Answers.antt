@@ -1,4 +1,4 @@
--- `offer_above` goes up from the place next above the name. The invariant: the answer is what the entries from this one on offer.
+-- `offer_above_at` goes up from the place next above the name. The invariant: the answer is what the entries from this one on offer.
 use Rattle.std.specs.Prelude.{Some}
 use borrow.Rule.Slice.PartMut.{mid_of}
 use native.Mathlib.Omega.{arith}
@@ -10,7 +10,7 @@ use Rattle.member.specs.Rounds.{bare_offer, first_offer}
 use Rattle.member.specs.Limits.{high}
 use Rattle.member.proofs.Seats.{next_le}
 use Rattle.member.proofs.Offers.{above_from, rows_from, first_step, first_end}
-use Rattle.member.proofs.Member.offer_above.Goals as goal
+use Rattle.member.proofs.Member.offer_above_at.Goals as goal
 
 pub offset_bounds-self-from : goal.offset_bounds-self-from
 offset_bounds-self-from c = omega (arith, next_le (entries c.args.self.now) c.args.name)

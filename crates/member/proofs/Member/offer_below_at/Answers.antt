@@ -1,4 +1,4 @@
--- `offer_below` goes down from the place of the name. The invariant: the answer is what the entries below place i offer.
+-- `offer_below_at` goes down from the place of the name. The invariant: the answer is what the entries below place i offer.
 use Rattle.std.specs.Prelude.{Some}
 use borrow.Author.Rules.{rules}
 use native.Mathlib.Omega.{arith}
@@ -9,7 +9,7 @@ use Rattle.member.specs.Tile.{entries}
 use Rattle.member.proofs.Rows.{length_of_map, entries_le}
 use Rattle.member.proofs.Seats.{seat_le}
 use Rattle.member.proofs.Offers.{below_from, last_step, last_end}
-use Rattle.member.proofs.Member.offer_below.Goals as goal
+use Rattle.member.proofs.Member.offer_below_at.Goals as goal
 
 pub loop-i-init : goal.loop-i-init
 loop-i-init c =
