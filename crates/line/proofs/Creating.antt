@@ -1,6 +1,6 @@
 -- A line before a suite is accepted: a creation, or refusal 14.
-use mathlib.Core.Path.{◌≡◌, refl}
-use Prim.Native.Nat.{◌<◌, ◌≤◌}
+use mathlib.Core.Path.{◌≡◌, refl, ◌∙◌}
+use Prim.Native.Nat.{ℕ, ◌<◌, ◌≤◌}
 use lib.ListN.{take}
 use borrow.Author.Tests.{lt-ltb, le-ltb}
 use Rattle.std.specs.Prelude as prelude
@@ -10,7 +10,6 @@ use Rattle.suite.specs.Create.{create_of, created_of}
 use Rattle.suite.specs.declared.Refusal.{Refusal}
 use Rattle.suite.specs.declared.Suite.{Suite}
 use Rattle.text.specs.declared.Creation.{Creation}
-use Rattle.text.specs.declared.Reply.{Reply}
 use Rattle.text.specs.declared.Reply.TheVariants.{SuiteOk, Refused}
 use Rattle.line.specs.Standing.{Answer, created, without_suite, creation_for}
 use Rattle.line.specs.Lent.{standing_in, answer_in}
@@ -24,11 +23,15 @@ pub not_asked : answer_in (Refused 14) None ≡ first None
 unfolding without_suite
 not_asked = refl
 
--- or for one, with too many votes. What stands then is none, and the reply the refusal
+-- or for one, with too many votes. It is answered by any answer that refuses so and leaves nothing standing
 module _ (p : Creation) where
-  pub too_many : 8 < p.count → (t : Option Suite) (said : Reply) → t ≡ None → said ≡ Refused 2 → answer_in said t ≡ first (Some p)
+  refused_so : (n : ℕ) → answer_in (Refused n) None ≡ first (Some p) → (a : Answer) → a.reply ≡ Refused n → a.standing ≡ standing_in None
+      → a ≡ first (Some p)
+  refused_so n is a e f = (λ j. record { reply = e j; standing = f j }) ∙ is
+
+  pub too_many : 8 < p.count → (a : Answer) → a.reply ≡ Refused 2 → a.standing ≡ standing_in None → a ≡ first (Some p)
   unfolding without_suite
-  too_many h t said e f = rw (e, f, lt-ltb 8 p.count h)
+  too_many h = refused_so 2 (rw (lt-ltb 8 p.count h))
 
   -- what creation comes to is what the line is answered
   module _ (few : p.count ≤ 8) (r : prelude.Result Suite Refusal)
@@ -37,9 +40,9 @@ module _ (p : Creation) where
     unfolding without_suite
     creation-is = rw (le-ltb 8 p.count few, ← made)
 
-    pub not_made : {n : Refusal} → r ≡ Err n → (t : Option Suite) (said : Reply) → t ≡ None → said ≡ Refused (number_of n)
-        → answer_in said t ≡ first (Some p)
-    not_made h t said e f = rw (e, f, creation-is, h)
+    pub not_made : {n : Refusal} → r ≡ Err n → (a : Answer) → a.reply ≡ Refused (number_of n) → a.standing ≡ standing_in None
+        → a ≡ first (Some p)
+    not_made {n} h = refused_so (number_of n) (rw (creation-is, h))
 
     pub now-made : {s : Suite} → r ≡ Ok s → answer_in SuiteOk (Some s) ≡ first (Some p)
     now-made {s} h = rw (creation-is, h)
