@@ -1,7 +1,7 @@
 -- What a coalescing shows, and whether it fits.
 use Rattle.std.specs.Prelude.{◌≡◌, refl, ◌⊎◌, List, [], ◌∷◌, ◌++◌, Bool, true, false, cond, ◌&&◌, ℕ, suc, ◌-◌, ◌≤◌, ◌<◌, length, take, ltb, leb}
 use Rattle.std.proofs.Math.Path.{sym}
-use Rattle.std.proofs.Common.{ap, subst, ◌∙◌, inl, inr, arith, length-append, lt-ltb, ltb-true}
+use Rattle.std.proofs.Common.{ap, subst, ◌∙◌, inl, inr, arith, length-append, lt-ltb, le-ltb, ltb-true}
 use Rattle.std.proofs.Math.ListN.{drop}
 use Rattle.std.proofs.Math.Seq.{drop-length}
 use Rattle.std.proofs.Math.Dec.{eqb-suc-zero}
@@ -54,6 +54,11 @@ coalesce_is m P S g h = rw (lt-ltb P.end S.end h, fits_coalesce_lem m P S g h)
 pub coalesce_fits : (m : Member) (P S : Bound) (g : ℕ) → P.end < S.end → fits_coalesce m P.end S.end ≡ true
     → coalesce_of m P S g ≡ holding m (low_set m.low P.end g) (coalesced m.low (entries m) P S g)
 coalesce_fits m P S g h k = coalesce_is m P S g h ∙ rw k
+
+-- ends that are not in order have nothing between them
+pub coalesce_same : (m : Member) (P S : Bound) (g : ℕ) → S.end ≤ P.end → coalesce_of m P S g ≡ m
+unfolding coalesce_of
+coalesce_same m P S g h = rw (le-ltb P.end S.end h)
 
 pub coalesce_entries : (m : Member) (P S : Bound) (g : ℕ) → P.end < S.end → fits_coalesce m P.end S.end ≡ true
     → entries (coalesce_of m P S g) ≡ coalesced m.low (entries m) P S g

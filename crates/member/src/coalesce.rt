@@ -1,6 +1,8 @@
 // Coalescing p..s, as the rules paper has it: p and s are written, every entry strictly between is dropped, and the one gap between
 // them gets its version. The rows below p and past s stay, and the rows of p and s go between them.
-ghost use Rattle.std.specs.Prelude.{◌≡◌, ◌≤◌, ◌+◌, ◌-◌, length};
+#![tactic(auto, using(crate::specs::CoalesceLaws::coalesce_same))]
+
+ghost use Rattle.std.specs.Prelude.{◌≡◌, ◌≤◌, ◌<◌, ◌+◌, ◌-◌, length};
 ghost use Rattle.member.specs.Tile.{entries};
 ghost use Rattle.member.specs.Change.{coalesce_of, fits_coalesce};
 ghost use Rattle.member.specs.Steps.{own, end_put, moved_at};
@@ -72,9 +74,17 @@ impl Member {
     pub fn join(&mut self, p: Bound, s: Bound, gap: u32)
         ensures { self.new ≡ coalesce_of self.old p s gap }
     {
-        if s.end <= p.end {
-            return;
+        if p.end < s.end {
+            self.join_in_order(p, s, gap);
         }
+    }
+
+    // For ends in order: the entries past s moved to their place, and the rows of p and s put in front of them. Where over 32 would be
+    // left, nothing.
+    fn join_in_order(&mut self, p: Bound, s: Bound, gap: u32)
+        requires { p.end < s.end }
+        ensures { self.new ≡ coalesce_of self.old p s gap }
+    {
         let n = self.used();
         let from = self.below_end(p.end);
         let to = self.past_end(s.end);

@@ -147,24 +147,26 @@ module _ (s : Suite) where
   without-suite k None = (refl, refl)
   without-suite k (Some r) = made-or-not k r.suite r.outcome
 
+-- What stands then stays until a suite is accepted.
+module _ {s : Suite} (p : Lined (fresh s) []) where
   starts : (r : Result) → Starts r → Lined (created (fresh s) r.suite r.outcome).standing []
   unfolding Starts
   starts r h = go r.outcome (λ vs e. h vs e)
     where
       go : (o : Outcome) → ((vs : List ℕ) → o ≡ answered vs → Reached r.suite []) → Lined (created (fresh s) r.suite o).standing []
       go (answered vs) h = suited (h vs refl)
-      go (refused n) h = nothing s
+      go (refused n) h = p
 
   pub starts-on : (asked : Option Creation) → Lined (without_suite (fresh s) (creation_for asked)).standing []
   unfolding without_suite
   starts-on (Some q) =
       starts (cond (ltb 8 q.count) (not_created 2) (create_of q.read q.write (take q.count q.votes)))
       (asked_starts q.read q.write q.count q.votes (ltb 8 q.count))
-  starts-on None = nothing s
+  starts-on None = p
 
 pub says : {t : Standing} {d : Directory} → Lined t d → (line : List ℕ) → SaysOf t d line (answer_of t line).reply
 unfolding answer_of next
-says (nothing s) line = without-suite s (command_of line) (creation_for (ballots_of line))
+says (nothing s) line = without-suite _ (command_of line) (creation_for (ballots_of line))
 says (suited p) line = on-suite p (command_of line)
 
 pub as_told : {t : Standing} {d : Directory} → Lined t d → (line : List ℕ) → (answer_of t line).reply ≡ told t d line
@@ -174,5 +176,5 @@ as_told (suited {s} p) line = told-on p (call_for s (command_of line))
 
 pub stays_lined : {t : Standing} {d : Directory} → Lined t d → (line : List ℕ) → Lined (answer_of t line).standing (next t d line)
 unfolding answer_of next
-stays_lined (nothing s) line = starts-on s (ballots_of line)
+stays_lined (nothing s) line = starts-on (nothing s) (ballots_of line)
 stays_lined (suited {s} p) line = goes_on p (call_for s (command_of line))

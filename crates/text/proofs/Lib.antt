@@ -13,3 +13,4 @@ pub mod Longest
 pub mod Reading
 pub mod Listing
 pub mod Determined
+pub mod Asked

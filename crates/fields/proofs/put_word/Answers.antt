@@ -3,7 +3,8 @@
 use Prim.Native.Nat.{◌+◌, ◌-◌}
 use native.Mathlib.Nat.{div-one}
 use native.Mathlib.Omega.{arith}
-use mathlib.Core.Path.{refl, sym, ◌∙◌}
+use mathlib.Core.Path.{refl, ap, sym, ◌∙◌}
+use Rattle.std.specs.Int.{w64, to_be_bytes}
 use lib.Seq.{sets-eq}
 use Rattle.std.proofs.lemmas.Slice.{put_mid-paste}
 use Rattle.fields.specs.Word.{bytes_in}
@@ -13,7 +14,7 @@ pub returns : goal.returns
 returns c =
     let a = c.args in
     put_mid-paste a.first (a.first + 8 - a.first) a.bytes.now c.copy_from_slice.new.self (bytes_in 8 a.word) 8
-    (c.copy_from_slice.ensures.after ∙ simp div-one c.to_be_bytes.ensures)
+    (c.copy_from_slice.ensures.after ∙ c.to_be_bytes.ensures ∙ ap (to_be_bytes w64) {y = a.word} (omega arith) ∙ simp div-one)
     (omega arith)
     refl
     ∙ sym (sets-eq (bytes_in 8 a.word) a.bytes.now a.first c.requires)

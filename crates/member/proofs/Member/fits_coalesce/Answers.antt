@@ -1,5 +1,9 @@
 -- `fits_coalesce` counts the entries that a coalescing leaves.
 use native.Mathlib.Omega.{arith}
+use mathlib.Core.Path.{ap, ◌∙◌}
+use Prim.Native.Nat.{ℕ, ◌+◌, ◌-◌}
+use lib.Dec.{leb}
+use Rattle.member.specs.Limits.{slots}
 use Rattle.member.specs.Tile.{entries}
 use Rattle.member.specs.SearchLaws.{end_cut, below-le-length, past-le-length}
 use Rattle.member.proofs.Fits.{fits-order}
@@ -40,7 +44,9 @@ overflow_add-result c =
 pub returns : goal.returns
 returns c =
     let a = c.args in
-    room {m = a.self.now} {p = a.p} {s = a.s}
+    let n = c.below_end-from.result + c.rows_of.result + c.rows_of-2.result + (c.used-n.result - c.past_end-to.result) in
+    ap (λ (k : ℕ). leb k slots) {y = n} (omega arith)
+    ∙ room {m = a.self.now} {p = a.p} {s = a.s}
     (record {
       order = c.if-s-p.false;
       all = c.used-n.ensures.0;

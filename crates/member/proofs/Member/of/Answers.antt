@@ -1,12 +1,13 @@
 -- `of` reads place after place.
 use native.Mathlib.Omega.{arith}
-use mathlib.Core.Path.{refl, ap}
+use mathlib.Core.Path.{refl}
 use mathlib.Core.List.{List}
 use Prim.Native.Nat.{ℕ}
 use lib.ListN.{drop, get_or}
 use Rattle.member.specs.Tile.{none}
 use Rattle.member.specs.Cells.{rows_in}
 use Rattle.member.specs.declared.Row.{Row}
+use Rattle.member.proofs.Changes.{member_path}
 use Rattle.member.proofs.Filled.{filled_none, filled_more, filled_all}
 use Rattle.member.proofs.Cells.{length_rows, row_cells}
 use Rattle.member.proofs.Member.of.Goals as goal
@@ -27,5 +28,5 @@ loop-i-preserved c =
 pub returns : goal.returns
 returns c =
     let l = c.args.cells.now in
-    ap (λ (rows : List Row). record { low = get_or l 1 0; count = get_or l 0 0; rows = rows })
+    member_path refl (omega arith)
     (filled_all none 32 (read l) c.loop-i.row-items c.loop-i.i (rows_in 32 (drop 2 l)) (omega (arith, c.loop-i.invariant.all)) c.loop-i.invariant (length_rows 32 (drop 2 l)) (λ j k. refl))

@@ -49,4 +49,4 @@ pub returns : goal.returns
 returns c =
     let a = c.args in
     let l = mid_of c.next-from.result (c.used-n.result - c.next-from.result) a.self.now.rows in
-    c.offer_end.ensures ∙ sym (c.loop-row.invariant ∙ first_end a.k a.v _ l c.loop-row.row-index (omega arith))
+    c.offer_end.ensures ∙ ap (bare_offer high) {y = a.k} (omega arith) ∙ sym (c.loop-row.invariant ∙ first_end a.k a.v _ l c.loop-row.row-index (omega arith))

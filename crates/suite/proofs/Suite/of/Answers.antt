@@ -17,7 +17,8 @@ loop-i-init c = filled_none (tile_in []) 8 (read c.args.lent.now) _ refl
 
 pub loop-i-preserved : goal.loop-i-preserved
 loop-i-preserved c =
-    filled_more (tile_in []) 8 (read c.args.lent.now) c.loop-i.member-items c.loop-i.i _ (omega (arith, c.loop-i.invariant.all)) c.loop-i.invariant c.of.ensures
+    filled_more (tile_in []) 8 (read c.args.lent.now) c.loop-i.member-items c.loop-i.i _ (omega (arith, c.loop-i.invariant.all)) c.loop-i.invariant
+    (c.of.ensures ∙ ap (λ (k : ℕ). read c.args.lent.now k) (omega arith))
 
 pub returns : goal.returns
 returns c =

@@ -1,19 +1,13 @@
--- `join` moves the rows past s to their place and puts those of p and s in front of them.
-use borrow.Author.Tests.{le-ltb}
+-- `join_in_order` moves the rows past s to their place and puts those of p and s in front of them.
 use native.Mathlib.Omega.{arith}
 use Rattle.member.specs.Tile.{entries}
-use Rattle.member.specs.Change.{coalesce_of}
 use Rattle.member.specs.SearchLaws.{end_cut, below-le-length, past-le-length}
 use mathlib.Core.Path.{◌≡◌}
 use borrow.Author.Rules.{rules}
 use lib.ListN.{length}
 use Rattle.member.proofs.Rows.{length_of_map}
 use Rattle.member.proofs.Removal.{coalesce-over, coalesce-put}
-use Rattle.member.proofs.Member.join.Goals as goal
-
-pub returns-then-s-p : goal.returns-then-s-p
-unfolding coalesce_of
-returns-then-s-p c = rw (le-ltb c.args.p.end c.args.s.end c.if-s-p.true)
+use Rattle.member.proofs.Member.join_in_order.Goals as goal
 
 pub overflow_add-mid : goal.overflow_add-mid
 overflow_add-mid c =
@@ -53,7 +47,7 @@ returns-then-end-n-le-SLOTS c =
     let r : length a.self.now.rows ≡ 32 = search (rules, length_of_map) in
     coalesce-put a.self.now a.p a.s a.gap
     (record {
-      order = c.if-s-p.false;
+      order = c.requires;
       all = c.used-n.ensures.0;
       below = c.below_end-from.ensures;
       past = c.past_end-to.ensures;
@@ -68,7 +62,7 @@ returns-else-end-n-le-SLOTS c =
     let a = c.args in
     coalesce-over a.self.now a.p a.s a.gap
     (record {
-      order = c.if-s-p.false;
+      order = c.requires;
       all = c.used-n.ensures.0;
       below = c.below_end-from.ensures;
       past = c.past_end-to.ensures;
